@@ -1,0 +1,1 @@
+// Value calendars: in which quarter hours a plant's value is above zero.

@@ -1,0 +1,1 @@
+// An amount divided over rows by weight.
