@@ -1,0 +1,45 @@
+-- What the calls of a draft answer, and what they leave in it. Assumes nothing.
+use mathlib.Core.Path.{_≡_}
+use mathlib.Core.List.{[], _∷_}
+use Prim.Native.Nat.{ℕ}
+use lib.Dec.{leb}
+use Rattle.std.specs.Options.{isSome}
+use Rattle.std.specs.declared.option.Option.the-variants.{Some, None}
+use Rattle.std.specs.declared.result.Result.the-variants.{Ok, Err}
+use Rattle.fault.specs.declared.cause.Cause.the-variants.{YearOutOfRange, YearNotSet, NoSupportedPlant, OrdinaryPowerExceeded}
+use Rattle.fault.specs.Questions.{Answer, asked}
+use Rattle.site.specs.declared.draft.Draft.{Draft}
+use Rattle.site.specs.declared.plant.Kind.the-variants.{Ordinary}
+use Rattle.site.specs.declared.plant.PlantEntry.{PlantEntry}
+use Rattle.site.specs.Plants.{kind-power, some-supported}
+use Rattle.site.specs.Registers.{Empty, Added, adding}
+use Rattle.site.specs.Years.{settleable}
+
+pub record Blank (d : Draft) : Type 0 where
+  pub year : d .year ≡ None
+  pub register : Empty (d .register)
+
+abbrev pub setting : ℕ → Answer
+setting year = asked 0 ((settleable year, YearOutOfRange) ∷ []) (Ok tt)
+
+pub record YearSet (d : Draft) (y : ℕ) (e : Draft) : Type 0 where
+  pub year : e .year ≡ Some y
+  pub register : e .register ≡ d .register
+
+abbrev pub Sets : Draft → ℕ → Answer → Draft → Type 0
+Sets d year r e = (r ≡ setting year) × elim r [ Ok _ ↦ YearSet d year e | Err _ ↦ d ≡ e ]
+
+pub record PlantAdded (d : Draft) (p : PlantEntry) (e : Draft) : Type 0 where
+  pub year : e .year ≡ d .year
+  pub register : Added (d .register) p (e .register)
+
+abbrev pub AddsPlant : Draft → PlantEntry → Answer → Draft → Type 0
+AddsPlant d p r e = (r ≡ adding (d .register) p) × elim r [ Ok _ ↦ PlantAdded d p e | Err _ ↦ d ≡ e ]
+
+-- whether a draft is fit for an option with this limit: a year, a supported plant, and ordinary power within the limit
+abbrev pub fitness : ℕ → Draft → Answer
+fitness limit d = asked 0 (
+      (isSome (d .year), YearNotSet)
+    ∷ (some-supported (d .register .plants), NoSupportedPlant)
+    ∷ (leb (kind-power Ordinary (d .register .plants)) limit, OrdinaryPowerExceeded)
+    ∷ []) (Ok tt)

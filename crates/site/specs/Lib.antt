@@ -1,0 +1,4 @@
+pub mod Years
+pub mod Plants
+pub mod Registers
+pub mod Drafts
