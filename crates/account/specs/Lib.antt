@@ -1,0 +1,3 @@
+pub mod SupplyContracts
+pub mod Ledgers
+pub mod Calls
