@@ -8,7 +8,8 @@ use Rattle.std.specs.Results.{isOk}
 use Rattle.std.specs.declared.result.Result.the-variants.{Ok, Err}
 use Rattle.fault.specs.declared.cause.Cause.the-variants.{DraftUnfit, ContractNumberZero, ContractNumberUsed, ContractsFull}
 use Rattle.fault.specs.Questions.{Answer, asked}
-use Rattle.options.specs.Quarters.{Sums, Started}
+use Rattle.options.specs.declared.settlement_option.SettlementOption.{Ghosts as Meaning}
+use Rattle.options.specs.Quarters.{Started}
 use Rattle.site.specs.declared.draft.Draft.{Draft}
 use Rattle.site.specs.Drafts.{fitness}
 use Rattle.site.specs.Plants.{site-power}
@@ -18,12 +19,12 @@ use Rattle.account.specs.Ledgers.{Fresh, Begun}
 use Rattle.account.specs.SupplyContracts.{used}
 
 module _ {O : Type 0} where
-  -- opening, under an option with this limit and these sums: the option starts with the power of all plants
-  pub record Opens (limit : ℕ) (sums : O → Sums) (d : Draft) (a : Opened O) : Type 0 where
+  -- opening: the option starts with the power of all plants
+  pub record Opens (meaning : Meaning O) (d : Draft) (a : Opened O) : Type 0 where
     pub draft : a .draft ≡ d
-    pub fit : a .fit ≡ isOk (fitness limit d)
+    pub fit : a .fit ≡ isOk (fitness (meaning .limit) d)
     pub ledger : Fresh (a .ledger)
-    pub option : Started (site-power (d .register .plants)) (sums (a .option))
+    pub option : Started (site-power (d .register .plants)) (meaning .sums (a .option))
 
   -- the questions of a contract that is to begin
   abbrev pub beginning : Opened O → ℕ → Answer

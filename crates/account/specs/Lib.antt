@@ -1,3 +1,4 @@
 pub mod SupplyContracts
 pub mod Ledgers
 pub mod Calls
+pub mod Statements

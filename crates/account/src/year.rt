@@ -26,7 +26,7 @@ pub struct Closed<O> {
 impl<O: SettlementOption> Opened<O> {
     // The option starts with the power of all plants.
     pub fn open(draft: Draft) -> Opened<O>
-        ensures { λ r. ⌜ Opens (O·SettlementOption .limit) (O·SettlementOption .sums) draft r ⌝ }
+        ensures { λ r. ⌜ Opens O·SettlementOption draft r ⌝ }
     {
         let fit = draft.check_fitness::<O>().is_ok();
         let power = draft.register().power();

@@ -1,6 +1,7 @@
 // A plant of the site.
 ghost use mathlib.Core.Path.{_≡_};
 ghost use Rattle.site.specs.Plants.{power-of, supported, entered};
+use division::Weighted;
 
 #[derive(Clone, Copy, PartialEq, Debug)]
 pub enum Kind {
@@ -36,6 +37,15 @@ pub struct PlantEntry {
 }
 
 const LAST_REGIME: u8 = 7;
+
+// Base is divided over plants by power.
+pub impl Weighted for Plant as PlantWeighted {
+    ghost weight = { λ p. p .power };
+
+    fn weight(&self) -> u32 {
+        self.power
+    }
+}
 
 impl Plant {
     // The plant's power if it is of this kind, otherwise 0.

@@ -1,0 +1,100 @@
+// A statement: what became of a year's draw and feed-in, in Wh.
+ghost use mathlib.Core.Path.{_≡_};
+use crate::ledger::MOST_CONTRACTS;
+use options::settlement_option::PLACES;
+
+#[derive(Clone, Copy, PartialEq, Debug)]
+pub enum Standing {
+    Interim,
+    Final,
+}
+
+// Grid draw: the part that is netted, and the part that stays levied.
+#[derive(Clone, Copy, PartialEq, Debug)]
+pub struct DrawFigures {
+    pub draw: u32,
+    pub netted: u32,
+    pub levied: u32,
+}
+
+// Feed-in: the base that is divided over the plants, the nettable and the unassigned part. What netting left of the nettable is unused.
+#[derive(Clone, Copy, PartialEq, Debug)]
+pub struct FeedInFigures {
+    pub feed_in: u32,
+    pub base: u32,
+    pub nettable: u32,
+    pub unassigned: u32,
+    pub unused: u32,
+}
+
+#[derive(Clone, Copy, PartialEq, Debug)]
+pub struct Totals {
+    pub draw: DrawFigures,
+    pub feed_in: FeedInFigures,
+}
+
+// A plant's portion of the base: the part that earns the market premium is valued.
+#[derive(Clone, Copy, PartialEq, Debug)]
+pub struct PlantLine {
+    pub portion: u32,
+    pub marked: u32,
+    pub valued: u32,
+    pub unvalued: u32,
+}
+
+#[derive(Clone, Copy, PartialEq, Debug)]
+pub struct ContractLine {
+    pub number: u32,
+    pub draw: DrawFigures,
+}
+
+// The first `plant_count` plant lines and the first `contract_count` contract lines count.
+#[derive(Clone, Copy, Debug)]
+pub struct Statement {
+    pub year: u16,
+    pub option: u8,
+    pub quarters: u32,
+    pub standing: Standing,
+    pub totals: Totals,
+    pub plants: [PlantLine; PLACES],
+    pub plant_count: usize,
+    pub contracts: [ContractLine; MOST_CONTRACTS],
+    pub contract_count: usize,
+}
+
+pub(crate) const NO_DRAW: DrawFigures = DrawFigures { draw: 0, netted: 0, levied: 0 };
+
+pub(crate) const NO_PLANT_LINE: PlantLine = PlantLine {
+    portion: 0,
+    marked: 0,
+    valued: 0,
+    unvalued: 0,
+};
+
+pub(crate) const NO_CONTRACT_LINE: ContractLine = ContractLine { number: 0, draw: NO_DRAW };
+
+impl Statement {
+    // A statement for a caller to have filled.
+    pub fn blank() -> Statement {
+        Statement {
+            year: 0,
+            option: 0,
+            quarters: 0,
+            standing: Standing::Interim,
+            totals: Totals {
+                draw: NO_DRAW,
+                feed_in: FeedInFigures {
+                    feed_in: 0,
+                    base: 0,
+                    nettable: 0,
+                    unassigned: 0,
+                    unused: 0,
+                },
+            },
+            plants: [NO_PLANT_LINE; PLACES],
+            plant_count: 0,
+            contracts: [NO_CONTRACT_LINE; MOST_CONTRACTS],
+            contract_count: 0,
+        }
+    }
+}
