@@ -6,7 +6,6 @@ use Prim.Native.Nat.{ℕ, _-_, _*_, _/_, min}
 use lib.Dec.{eqb, ltb}
 use lib.ListN.{getD}
 use Rattle.std.specs.Iters.{counting}
-use Rattle.std.specs.Options.{valueOr}
 use Rattle.std.specs.declared.result.Result.the-variants.{Ok, Err}
 use Rattle.fault.specs.declared.cause.Cause.the-variants.{DraftUnfit, YearIncomplete}
 use Rattle.fault.specs.Questions.{Answer, asked}
@@ -25,6 +24,7 @@ use Rattle.account.specs.declared.statement.Standing.{Standing}
 use Rattle.account.specs.declared.statement.Statement.{Statement}
 use Rattle.account.specs.declared.statement.Totals.{Totals}
 use Rattle.account.specs.declared.year.Opened.{Opened}
+use Rattle.account.specs.Calls.{year-of}
 use Rattle.account.specs.SupplyContracts.{no-contract}
 
 -- levied is the draw that is not netted
@@ -99,7 +99,7 @@ module _ {O : Type 0} (meaning : Meaning O) (o : O) where
 module _ {O : Type 0} (meaning : Meaning O) (a : Opened O) where
   abbrev pub settled : Standing → Statement
   settled standing = record {
-    year = valueOr (a .draft .year) 0;
+    year = year-of (a .draft);
     option = meaning .number;
     quarters = meaning .sums (a .option) .quarters;
     standing = standing;
@@ -116,7 +116,7 @@ module _ {O : Type 0} (meaning : Meaning O) (a : Opened O) where
 
   -- a year is complete when every quarter of it was accepted
   abbrev pub complete : Bool
-  complete = eqb (a .ledger .entered) (quarters-in (valueOr (a .draft .year) 0))
+  complete = eqb (a .ledger .entered) (quarters-in (year-of (a .draft)))
 
   abbrev pub finally : Answer
   finally = asked (a .ledger .entered) ((a .fit, DraftUnfit) ∷ (complete, YearIncomplete) ∷ []) (Ok tt)
