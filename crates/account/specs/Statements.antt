@@ -17,12 +17,12 @@ use Rattle.site.specs.Plants.{no-plant, supported}
 use Rattle.site.specs.Years.{quarters-in}
 use Rattle.account.specs.declared.contract.Contract.{Contract}
 use Rattle.account.specs.declared.ledger.Ledger.{Ledger}
-use Rattle.account.specs.declared.statement.ContractLine.{ContractLine}
-use Rattle.account.specs.declared.statement.DrawFigures.{DrawFigures}
-use Rattle.account.specs.declared.statement.PlantLine.{PlantLine}
-use Rattle.account.specs.declared.statement.Standing.{Standing}
-use Rattle.account.specs.declared.statement.Statement.{Statement}
-use Rattle.account.specs.declared.statement.Totals.{Totals}
+use Rattle.statement.specs.declared.figures.ContractLine.{ContractLine}
+use Rattle.statement.specs.declared.figures.DrawFigures.{DrawFigures}
+use Rattle.statement.specs.declared.figures.PlantLine.{PlantLine}
+use Rattle.statement.specs.declared.figures.Standing.{Standing}
+use Rattle.statement.specs.declared.figures.Statement.{Statement}
+use Rattle.statement.specs.declared.figures.Totals.{Totals}
 use Rattle.account.specs.declared.year.Opened.{Opened}
 use Rattle.account.specs.Calls.{year-of}
 use Rattle.account.specs.SupplyContracts.{no-contract}
@@ -53,7 +53,7 @@ abbrev pub contract-lines : ℕ → Ledger → List ContractLine
 contract-lines netted l = map (λ place. cond (ltb place (l .begun)) (contract-row netted l place) no-contract-line) (counting 0 4)
 
 abbrev pub no-plant-line : PlantLine
-no-plant-line = record { portion = 0; marked = 0; valued = 0; unvalued = 0 }
+no-plant-line = record { place = 0; portion = 0; marked = 0; valued = 0; unvalued = 0 }
 
 module _ {O : Type 0} (meaning : Meaning O) (o : O) where
   -- only a supported plant's portion is valued
@@ -62,6 +62,7 @@ module _ {O : Type 0} (meaning : Meaning O) (o : O) where
 
   abbrev pub line : Plant → ℕ → ℕ → PlantLine
   line plant place portion = record {
+    place = place;
     portion = portion;
     marked = meaning .sums o .marked place;
     valued = premium plant place portion;

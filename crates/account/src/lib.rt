@@ -3,5 +3,4 @@ pub mod contract;
 pub mod entering;
 pub mod ledger;
 pub mod settling;
-pub mod statement;
 pub mod year;

@@ -2,19 +2,19 @@
 ghost use mathlib.Core.Path.{_≡_};
 ghost use Prim.Native.Nat.{_<_, _≤_};
 ghost use Rattle.account.specs.Statements.{drawn, valued, line, plant-lines, contract-lines, totals, settled, interim, finally, Fills};
-ghost use Rattle.account.specs.declared.statement.Standing.the-variants.{Interim, Final};
+ghost use Rattle.statement.specs.declared.figures.Standing.the-variants.{Interim, Final};
 use crate::contract::ContractWeighted;
 use crate::ledger::Ledger;
-use crate::ledger::MOST_CONTRACTS;
-use crate::statement::ContractLine;
-use crate::statement::DrawFigures;
-use crate::statement::FeedInFigures;
-use crate::statement::PlantLine;
-use crate::statement::Standing;
-use crate::statement::Statement;
-use crate::statement::Totals;
-use crate::statement::NO_CONTRACT_LINE;
-use crate::statement::NO_PLANT_LINE;
+use statement::figures::MOST_CONTRACTS;
+use statement::figures::ContractLine;
+use statement::figures::DrawFigures;
+use statement::figures::FeedInFigures;
+use statement::figures::PlantLine;
+use statement::figures::Standing;
+use statement::figures::Statement;
+use statement::figures::Totals;
+use statement::figures::NO_CONTRACT_LINE;
+use statement::figures::NO_PLANT_LINE;
 use crate::year::Closed;
 use crate::year::Opened;
 use division::divide;
@@ -58,6 +58,7 @@ fn plant_line<O: SettlementOption>(option: &O, plant: &Plant, place: usize, port
 {
     let valued = if plant.is_supported() { valued_part(portion, option.pair(place)) } else { 0 };
     PlantLine {
+        place,
         portion,
         marked: option.marked(place),
         valued,

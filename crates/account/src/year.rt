@@ -2,7 +2,7 @@
 ghost use mathlib.Core.Path.{_≡_};
 ghost use Rattle.account.specs.Calls.{Opens, Begins, Closes};
 use crate::ledger::Ledger;
-use crate::ledger::MOST_CONTRACTS;
+use statement::figures::MOST_CONTRACTS;
 use fault::cause::Cause;
 use fault::Fault;
 use options::settlement_option::SettlementOption;

@@ -6,8 +6,8 @@ ghost use lib.ListN.{take};
 ghost use Rattle.account.specs.SupplyContracts.{used};
 ghost use Rattle.account.specs.Ledgers.{Fresh, Begun, Booked};
 use super::Ledger;
-use super::MOST_CONTRACTS;
 use crate::contract::Contract;
+use statement::figures::MOST_CONTRACTS;
 
 const NO_CONTRACT: Contract = Contract { number: 0, draw: 0 };
 

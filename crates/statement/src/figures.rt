@@ -1,7 +1,8 @@
-// A statement: what became of a year's draw and feed-in, in Wh.
-ghost use mathlib.Core.Path.{_≡_};
-use crate::ledger::MOST_CONTRACTS;
+// What a statement says became of a year's draw and feed-in, in Wh.
 use options::settlement_option::PLACES;
+
+// The most contracts of a year.
+pub const MOST_CONTRACTS: usize = 4;
 
 #[derive(Clone, Copy, PartialEq, Debug)]
 pub enum Standing {
@@ -36,6 +37,7 @@ pub struct Totals {
 // A plant's portion of the base: the part that earns the market premium is valued.
 #[derive(Clone, Copy, PartialEq, Debug)]
 pub struct PlantLine {
+    pub place: usize,
     pub portion: u32,
     pub marked: u32,
     pub valued: u32,
@@ -62,16 +64,17 @@ pub struct Statement {
     pub contract_count: usize,
 }
 
-pub(crate) const NO_DRAW: DrawFigures = DrawFigures { draw: 0, netted: 0, levied: 0 };
+pub const NO_DRAW: DrawFigures = DrawFigures { draw: 0, netted: 0, levied: 0 };
 
-pub(crate) const NO_PLANT_LINE: PlantLine = PlantLine {
+pub const NO_PLANT_LINE: PlantLine = PlantLine {
+    place: 0,
     portion: 0,
     marked: 0,
     valued: 0,
     unvalued: 0,
 };
 
-pub(crate) const NO_CONTRACT_LINE: ContractLine = ContractLine { number: 0, draw: NO_DRAW };
+pub const NO_CONTRACT_LINE: ContractLine = ContractLine { number: 0, draw: NO_DRAW };
 
 impl Statement {
     // A statement for a caller to have filled.
