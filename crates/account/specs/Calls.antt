@@ -94,6 +94,10 @@ module _ {O : Type 0} where
     abbrev pub Enters : Opened O → ℕ → Amounts → Answer → Opened O → Type 0
     Enters a quarter amounts r b = (r ≡ entering a quarter amounts) × elim r [ Ok _ ↦ Entered a quarter amounts b | Err _ ↦ a ≡ b ]
 
+  -- a year is complete when every quarter of it was accepted
+  abbrev pub complete : Opened O → Bool
+  complete a = eqb (a .ledger .entered) (quarters-in (year-of (a .draft)))
+
   -- closing keeps everything
   abbrev pub Closes : Opened O → Closed O → Type 0
   Closes a c = c .last ≡ a

@@ -1,9 +1,9 @@
 -- What a statement says, made from the option's answers, the plants and the contracts. Assumes nothing.
 use mathlib.Core.Path.{_≡_}
-use mathlib.Core.Bool.{Bool, cond}
+use mathlib.Core.Bool.{cond}
 use mathlib.Core.List.{List, [], _∷_, map}
 use Prim.Native.Nat.{ℕ, _-_, _*_, _/_, min}
-use lib.Dec.{eqb, ltb}
+use lib.Dec.{ltb}
 use lib.ListN.{getD}
 use Rattle.std.specs.Iters.{counting}
 use Rattle.std.specs.declared.result.Result.the-variants.{Ok, Err}
@@ -14,7 +14,6 @@ use Rattle.options.specs.declared.settlement_option.SettlementOption.{Ghosts as
 use Rattle.site.specs.declared.plant.Plant.{Plant}
 use Rattle.site.specs.declared.register.Register.{Register}
 use Rattle.site.specs.Plants.{no-plant, supported}
-use Rattle.site.specs.Years.{quarters-in}
 use Rattle.account.specs.declared.contract.Contract.{Contract}
 use Rattle.account.specs.declared.ledger.Ledger.{Ledger}
 use Rattle.statement.specs.declared.figures.ContractLine.{ContractLine}
@@ -24,7 +23,8 @@ use Rattle.statement.specs.declared.figures.Standing.{Standing}
 use Rattle.statement.specs.declared.figures.Statement.{Statement}
 use Rattle.statement.specs.declared.figures.Totals.{Totals}
 use Rattle.account.specs.declared.year.Opened.{Opened}
-use Rattle.account.specs.Calls.{year-of}
+use Rattle.statement.specs.Figures.{no-plant-line, no-contract-line}
+use Rattle.account.specs.Calls.{year-of, complete}
 use Rattle.account.specs.SupplyContracts.{no-contract}
 
 -- levied is the draw that is not netted
@@ -34,9 +34,6 @@ drawn draw netted = record { draw = draw; netted = netted; levied = draw - nette
 -- a portion times upper over lower, rounded down; 0 where the lower is 0, since a quotient by 0 is 0
 abbrev pub valued : ℕ → ℕ → ℕ → ℕ
 valued portion upper lower = portion * upper / lower
-
-abbrev pub no-contract-line : ContractLine
-no-contract-line = record { number = 0; draw = drawn 0 0 }
 
 -- netted feed-in divided over the contracts by draw
 abbrev pub contract-share : ℕ → Ledger → ℕ → ℕ
@@ -51,9 +48,6 @@ contract-row netted l place = record {
 -- the line of each contract, blank where there is none
 abbrev pub contract-lines : ℕ → Ledger → List ContractLine
 contract-lines netted l = map (λ place. cond (ltb place (l .begun)) (contract-row netted l place) no-contract-line) (counting 0 4)
-
-abbrev pub no-plant-line : PlantLine
-no-plant-line = record { place = 0; portion = 0; marked = 0; valued = 0; unvalued = 0 }
 
 module _ {O : Type 0} (meaning : Meaning O) (o : O) where
   -- only a supported plant's portion is valued
@@ -115,12 +109,8 @@ module _ {O : Type 0} (meaning : Meaning O) (a : Opened O) where
   abbrev pub interim : Answer
   interim = asked (a .ledger .entered) ((a .fit, DraftUnfit) ∷ []) (Ok tt)
 
-  -- a year is complete when every quarter of it was accepted
-  abbrev pub complete : Bool
-  complete = eqb (a .ledger .entered) (quarters-in (year-of (a .draft)))
-
   abbrev pub finally : Answer
-  finally = asked (a .ledger .entered) ((a .fit, DraftUnfit) ∷ (complete, YearIncomplete) ∷ []) (Ok tt)
+  finally = asked (a .ledger .entered) ((a .fit, DraftUnfit) ∷ (complete a, YearIncomplete) ∷ []) (Ok tt)
 
 -- the caller's statement after a call for one: filled, or as it was
 abbrev pub Fills : Answer → Answer → Statement → Statement → Statement → Type 0

@@ -23,7 +23,6 @@ use options::settlement_option::PLACES;
 use site::plant::Plant;
 use site::plant::PlantWeighted;
 use site::register::Register;
-use site::year::quarters_in;
 use fault::cause::Cause;
 use fault::Fault;
 
@@ -151,7 +150,7 @@ impl<O: SettlementOption> Closed<O> {
         if !year.fit {
             return Err(Cause::DraftUnfit.at(next as u64));
         }
-        if next != quarters_in(year.draft.year().unwrap_or(0)) {
+        if !year.is_complete() {
             return Err(Cause::YearIncomplete.at(next as u64));
         }
         *statement = settle(year, Standing::Final);

@@ -1,12 +1,13 @@
 // The states of a year account after its draft: each step takes the earlier state away.
 ghost use mathlib.Core.Path.{_≡_};
-ghost use Rattle.account.specs.Calls.{Opens, Begins, Closes};
+ghost use Rattle.account.specs.Calls.{Opens, Begins, Closes, complete};
 use crate::ledger::Ledger;
 use statement::figures::MOST_CONTRACTS;
 use fault::cause::Cause;
 use fault::Fault;
 use options::settlement_option::SettlementOption;
 use site::draft::Draft;
+use site::year::quarters_in;
 
 // A year that takes contracts and quarters. One opened from an unfit draft refuses every call but closing.
 #[derive(Drop)]
@@ -55,6 +56,13 @@ impl<O: SettlementOption> Opened<O> {
         }
         self.ledger.begin(number);
         Ok(())
+    }
+
+    // Whether every quarter of the year was accepted.
+    pub fn is_complete(&self) -> bool
+        ensures { λ r. ⌜ r ≡ complete (now (self .entry)) ⌝ }
+    {
+        self.ledger.entered() == quarters_in(self.draft.year().unwrap_or(0))
     }
 
     pub fn close(self) -> Closed<O>

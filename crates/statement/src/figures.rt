@@ -1,4 +1,6 @@
 // What a statement says became of a year's draw and feed-in, in Wh.
+ghost use mathlib.Core.Path.{_≡_};
+ghost use Rattle.statement.specs.Figures.{plant-lines, contract-lines, blank};
 use options::settlement_option::PLACES;
 
 // The most contracts of a year.
@@ -78,7 +80,9 @@ pub const NO_CONTRACT_LINE: ContractLine = ContractLine { number: 0, draw: NO_DR
 
 impl Statement {
     // A statement for a caller to have filled.
-    pub fn blank() -> Statement {
+    pub fn blank() -> Statement
+        ensures { λ r. ⌜ r ≡ blank ⌝ }
+    {
         Statement {
             year: 0,
             option: 0,
@@ -99,5 +103,23 @@ impl Statement {
             contracts: [NO_CONTRACT_LINE; MOST_CONTRACTS],
             contract_count: 0,
         }
+    }
+
+    // The lines of the plants.
+    pub fn plant_lines(&self) -> &[PlantLine]
+        ensures { λ r. ⌜ now r ≡ plant-lines (now (self .entry)) ⌝ }
+    {
+        let count = self.plant_count.min(PLACES);
+        let all = &self.plants[..];
+        &all[0..count]
+    }
+
+    // The lines of the contracts.
+    pub fn contract_lines(&self) -> &[ContractLine]
+        ensures { λ r. ⌜ now r ≡ contract-lines (now (self .entry)) ⌝ }
+    {
+        let count = self.contract_count.min(MOST_CONTRACTS);
+        let all = &self.contracts[..];
+        &all[0..count]
     }
 }

@@ -1,10 +1,12 @@
 // A statement in print, line by line.
 ghost use Rattle.std.specs.declared.option.Option.the-variants.{Some};
-ghost use Rattle.statement.specs.Lines.{draw-text, feed-in-text, plant-text, contract-text};
+ghost use Rattle.statement.specs.Lines.{draw-text, feed-in-text, plant-text, contract-text, standing-text, statement-text};
 use crate::figures::ContractLine;
 use crate::figures::DrawFigures;
 use crate::figures::FeedInFigures;
 use crate::figures::PlantLine;
+use crate::figures::Standing;
+use crate::figures::Statement;
 use std::fmt;
 
 pub impl fmt::Display for DrawFigures as DrawFiguresDisplay {
@@ -41,5 +43,36 @@ pub impl fmt::Display for ContractLine as ContractLineDisplay {
         let number = self.number;
         let draw = self.draw;
         write!(f, "contract {number} {draw}")
+    }
+}
+
+pub impl fmt::Display for Standing as StandingDisplay {
+    ghost shown = { λ x. Some (standing-text x) };
+
+    fn fmt<W: fmt::Write>(&self, f: &mut fmt::Formatter<W>) -> fmt::Result {
+        match self {
+            Standing::Interim => write!(f, "interim"),
+            Standing::Final => write!(f, "final"),
+        }
+    }
+}
+
+pub impl fmt::Display for Statement as StatementDisplay {
+    ghost shown = { λ x. Some (statement-text x) };
+
+    fn fmt<W: fmt::Write>(&self, f: &mut fmt::Formatter<W>) -> fmt::Result {
+        let Statement { year, option, quarters, standing, totals, .. } = *self;
+        let draw = totals.draw;
+        let feed_in = totals.feed_in;
+        write!(f, "year {year} option {option} quarters {quarters} {standing}\n")?;
+        write!(f, "{draw}\n")?;
+        write!(f, "{feed_in}\n")?;
+        for plant in self.plant_lines() {
+            write!(f, "{plant}\n")?;
+        }
+        for contract in self.contract_lines() {
+            write!(f, "{contract}\n")?;
+        }
+        Ok(())
     }
 }

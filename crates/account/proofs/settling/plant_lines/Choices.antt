@@ -1,4 +1,5 @@
-use Rattle.account.specs.Statements.{plant-row, no-plant-line}
+use Rattle.account.specs.Statements.{plant-row}
+use Rattle.statement.specs.Figures.{no-plant-line}
 use Rattle.account.proofs.Filling.{Filled}
 use Rattle.account.proofs.settling.plant_lines.Given as given
 
