@@ -1,0 +1,30 @@
+-- A place that is capped at the largest number of 64 bits is past the end of a content where the place itself is. Assumes nothing.
+use mathlib.Core.Path.{_≡_, sym, ap, _∙_}
+use mathlib.Core.Logic.{⊎-elim}
+use mathlib.Core.List.{List}
+use Prim.Native.Nat.{ℕ, _+_, _-_, _^_, _≤_, min}
+use native.Mathlib.Omega.{arith}
+use lib.ListN.{length}
+use Rattle.std.proofs.shelf.Lists.{getD-past}
+use Rattle.std.proofs.shelf.Tests.{cases-lt}
+use Rattle.tagged_file.specs.Numbers.{byteAt, twoAt}
+
+-- the largest number of 64 bits
+abbrev largest : ℕ
+largest = 2 ^ 64 - 1
+
+-- what is the same at all places past the end is the same at a place that is capped
+capped : (f : ℕ → ℕ) (end i : ℕ) → end ≤ largest → ((j k : ℕ) → end ≤ j → end ≤ k → f j ≡ f k) → f (min i largest) ≡ f i
+capped f end i h same = ⊎-elim (λ below. ap f (omega arith)) (λ above. same (min i largest) i (omega arith) (omega arith)) (cases-lt i largest)
+
+byte-past : (bs : List ℕ) (j k : ℕ) → length bs ≤ j → length bs ≤ k → byteAt bs j ≡ byteAt bs k
+byte-past bs j k a b = getD-past bs j 0 a ∙ sym (getD-past bs k 0 b)
+
+two-past : (bs : List ℕ) (j k : ℕ) → length bs ≤ j → length bs ≤ k → twoAt bs j ≡ twoAt bs k
+two-past bs j k a b = omega (arith, byte-past bs j k a b, byte-past bs (j + 1) (k + 1) (omega arith) (omega arith))
+
+pub byte-capped : (bs : List ℕ) (i : ℕ) → length bs ≤ largest → byteAt bs (min i largest) ≡ byteAt bs i
+byte-capped bs i h = capped (byteAt bs) (length bs) i h (byte-past bs)
+
+pub two-capped : (bs : List ℕ) (i : ℕ) → length bs ≤ largest → twoAt bs (min i largest) ≡ twoAt bs i
+two-capped bs i h = capped (twoAt bs) (length bs) i h (two-past bs)

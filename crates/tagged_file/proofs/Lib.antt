@@ -1,0 +1,4 @@
+pub mod Asked
+pub mod Capped
+pub mod Parts
+pub mod Standing

@@ -1,0 +1,14 @@
+-- How much of a file is held, allowed or told at most. Assumes nothing.
+use Prim.Native.Nat.{ℕ, _-_, _^_}
+
+-- the bytes that a window holds
+abbrev pub windowBytes : ℕ
+windowBytes = 32768
+
+-- the remarks of a file
+abbrev pub mostRemarks : ℕ
+mostRemarks = 4096
+
+-- the largest offset: the largest number of 64 bits
+abbrev pub mostOffset : ℕ
+mostOffset = 2 ^ 64 - 1
