@@ -1,3 +1,6 @@
 // The whole way of a file: its records, put to the account's calls in their order, and the statement at its end.
-pub mod account_of_file;
-pub mod content;
+mod account_of_file;
+mod chosen;
+mod content;
+pub mod settlement;
+pub mod stop;

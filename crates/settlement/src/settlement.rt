@@ -1,0 +1,120 @@
+// A file being settled: pieces of it come in, and each record is put to the account once it is held whole.
+ghost use mathlib.Core.Path.{_≡_};
+ghost use Rattle.settlement.specs.Progress.{open-still, Steps};
+use crate::chosen::Chosen;
+use crate::stop::Stop;
+use crate::stop::StopFromFault;
+use calendar::published_table::PublishedTable;
+use calendar::published_table::PublishedTableCalendar;
+use fault::cause::Cause;
+use statement::figures::Statement;
+use std::mem::replace;
+use tagged_file::order::Order;
+use tagged_file::record::Record;
+use tagged_file::window::Window;
+
+// How far a file has come.
+#[derive(Drop)]
+enum Outcome {
+    Open,
+    Settled(Statement),
+    Stopped(Stop),
+}
+
+#[derive(Drop)]
+pub struct Settlement<'t> {
+    table: PublishedTable<'t>,
+    window: Window,
+    order: Order,
+    chosen: Chosen,
+    outcome: Outcome,
+}
+
+impl<'t> Settlement<'t> {
+    pub fn new(table: PublishedTable<'t>) -> Settlement<'t> {
+        Settlement {
+            table,
+            window: Window::new(),
+            order: Order::new(),
+            chosen: Chosen::None,
+            outcome: Outcome::Open,
+        }
+    }
+
+    // Whether what is still to come can change the outcome.
+    pub fn is_open(&self) -> bool
+        ensures { λ r. ⌜ r ≡ open-still (now (self .entry) .outcome) ⌝ }
+    {
+        matches!(self.outcome, Outcome::Open)
+    }
+
+    // Takes in the next piece of the file.
+    pub fn feed(&mut self, piece: &[u8]) {
+        let mut rest = piece;
+        while self.is_open() && !rest.is_empty() {
+            let taken = self.window.feed(rest);
+            if taken == 0 {
+                break;
+            }
+            rest = &rest[taken..];
+            self.advance();
+        }
+    }
+
+    // The file has no more: what it comes to.
+    pub fn finish(mut self) -> Result<Statement, Stop> {
+        self.window.finish();
+        self.advance();
+        match self.outcome {
+            Outcome::Settled(statement) => Ok(statement),
+            Outcome::Stopped(stop) => Err(stop),
+            Outcome::Open => Err(Stop::Refused(Cause::HeaderCutOff.at(self.window.offset()))),
+        }
+    }
+
+    // Settles the records that are held whole.
+    fn advance(&mut self) {
+        while self.is_open() && self.window.is_ready() {
+            if let Err(stop) = self.step() {
+                self.outcome = Outcome::Stopped(stop);
+            }
+        }
+    }
+
+    // Settles the record at the front of the window, and passes it.
+    fn step(&mut self) -> Result<(), Stop>
+        ensures { λ r. ⌜ Steps (now (self .entry)) r (now (self .exit)) ⌝ }
+    {
+        let offset = self.window.offset();
+        let (record, size) = self.window.record()?;
+        self.order.allow(record.tag(), offset)?;
+        if let Record::End = record {
+            return self.end(offset, size);
+        }
+        match replace(&mut self.chosen, Chosen::None).put(&self.table, &record) {
+            Ok(chosen) => {
+                self.chosen = chosen;
+                self.window.pass(size);
+                Ok(())
+            }
+            Err(stop) => Err(stop.at(offset)),
+        }
+    }
+
+    // The end record: nothing may follow it, and the account gives its statement.
+    fn end(&mut self, offset: u64, size: usize) -> Result<(), Stop>
+        ensures { λ r. ⌜ Steps (now (self .entry)) r (now (self .exit)) ⌝ }
+    {
+        if self.window.held().len() > size {
+            return Err(Stop::Refused(Cause::BytesAfterEnd.at(offset.saturating_add(size as u64))));
+        }
+        let mut statement = Statement::blank();
+        match replace(&mut self.chosen, Chosen::None).settle(&mut statement) {
+            Ok(()) => {
+                self.outcome = Outcome::Settled(statement);
+                Ok(())
+            }
+            Err(stop) => Err(stop.at(offset)),
+        }
+    }
+}
