@@ -53,7 +53,7 @@ pub struct ContractLine {
 }
 
 // The first `plant_count` plant lines and the first `contract_count` contract lines count.
-#[derive(Clone, Copy, Debug)]
+#[derive(Clone, Copy, PartialEq, Debug)]
 pub struct Statement {
     pub year: u16,
     pub option: u8,
