@@ -25,9 +25,9 @@ module _ {X : Type 0} (f : ℕ → X) (blank : X) (n : ℕ) where
       record {
         long = simp length-set (h .long);
         front = λ k l. ⊎-elim
-          (λ e. ap (λ j. getD (set xs i v) j blank) e ∙ getD-set-same xs i v blank there ∙ is ∙ ap f (sym e))
-          (λ ne. getD-set-other xs i k v blank ne ∙ h .front k (omega (arith, ne)))
-          (cases-eq k i);
+            (λ e. ap (λ j. getD (set xs i v) j blank) e ∙ getD-set-same xs i v blank there ∙ is ∙ ap f (sym e))
+            (λ ne. getD-set-other xs i k v blank ne ∙ h .front k (omega (arith, ne)))
+            (cases-eq k i);
         rest = λ k l. let ne : k ≢ i = λ e. omega (arith, e) in getD-set-other xs i k v blank ne ∙ h .rest k (omega arith);
       }
 

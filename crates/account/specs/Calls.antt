@@ -58,7 +58,7 @@ module _ {O : Type 0} where
   -- the questions of a contract that is to begin
   abbrev pub beginning : Opened O → ℕ → Answer
   beginning a number = asked number (
-        (a .fit, DraftUnfit)
+      (a .fit, DraftUnfit)
       ∷ (ltb 0 number, ContractNumberZero)
       ∷ (not (used number (a .ledger .contracts)), ContractNumberUsed)
       ∷ (ltb (a .ledger .begun) 4, ContractsFull)
@@ -77,7 +77,7 @@ module _ {O : Type 0} where
     -- the questions of a quarter that is to be entered, and then those of the option
     abbrev pub entering : Opened O → ℕ → Amounts → Answer
     entering a quarter amounts = asked quarter (
-          (a .fit, DraftUnfit)
+        (a .fit, DraftUnfit)
         ∷ (ltb 0 (a .ledger .begun), NoContract)
         ∷ (eqb quarter (a .ledger .entered) && ltb quarter (quarters-in (year-of (a .draft))), NotNextQuarter)
         ∷ (allowed amounts, AmountTooLarge)

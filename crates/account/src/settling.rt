@@ -5,26 +5,26 @@ ghost use Rattle.account.specs.Statements.{drawn, valued, line, plant-lines, c
 ghost use Rattle.statement.specs.declared.figures.Standing.the-variants.{Interim, Final};
 use crate::contract::ContractWeighted;
 use crate::ledger::Ledger;
-use statement::figures::MOST_CONTRACTS;
+use crate::year::Closed;
+use crate::year::Opened;
+use division::divide;
+use fault::Fault;
+use fault::cause::Cause;
+use options::settlement_option::PLACES;
+use options::settlement_option::SettlementOption;
+use site::plant::Plant;
+use site::plant::PlantWeighted;
+use site::register::Register;
 use statement::figures::ContractLine;
 use statement::figures::DrawFigures;
 use statement::figures::FeedInFigures;
+use statement::figures::MOST_CONTRACTS;
+use statement::figures::NO_CONTRACT_LINE;
+use statement::figures::NO_PLANT_LINE;
 use statement::figures::PlantLine;
 use statement::figures::Standing;
 use statement::figures::Statement;
 use statement::figures::Totals;
-use statement::figures::NO_CONTRACT_LINE;
-use statement::figures::NO_PLANT_LINE;
-use crate::year::Closed;
-use crate::year::Opened;
-use division::divide;
-use options::settlement_option::SettlementOption;
-use options::settlement_option::PLACES;
-use site::plant::Plant;
-use site::plant::PlantWeighted;
-use site::register::Register;
-use fault::cause::Cause;
-use fault::Fault;
 
 // What of a draw is netted stays below it where the division sees to that; the rest is levied.
 fn draw_figures(draw: u32, netted: u32) -> DrawFigures
@@ -51,11 +51,20 @@ fn valued_part(portion: u32, pair: (u32, u32)) -> u32
 }
 
 // The line of the plant at a place.
-fn plant_line<O: SettlementOption>(option: &O, plant: &Plant, place: usize, portion: u32) -> PlantLine
+fn plant_line<O: SettlementOption>(
+    option: &O,
+    plant: &Plant,
+    place: usize,
+    portion: u32,
+) -> PlantLine
     requires { ⌜ place < 8 ⌝ }
     ensures { λ r. ⌜ r ≡ line O·SettlementOption (now (option .entry)) (now (plant .entry)) place portion ⌝ }
 {
-    let valued = if plant.is_supported() { valued_part(portion, option.pair(place)) } else { 0 };
+    let valued = if plant.is_supported() {
+        valued_part(portion, option.pair(place))
+    } else {
+        0
+    };
     PlantLine {
         place,
         portion,

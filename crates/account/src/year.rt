@@ -2,12 +2,12 @@
 ghost use mathlib.Core.Path.{_≡_};
 ghost use Rattle.account.specs.Calls.{Opens, Begins, Closes, complete};
 use crate::ledger::Ledger;
-use statement::figures::MOST_CONTRACTS;
-use fault::cause::Cause;
 use fault::Fault;
+use fault::cause::Cause;
 use options::settlement_option::SettlementOption;
 use site::draft::Draft;
 use site::year::quarters_in;
+use statement::figures::MOST_CONTRACTS;
 
 // A year that takes contracts and quarters. One opened from an unfit draft refuses every call but closing.
 #[derive(Drop)]

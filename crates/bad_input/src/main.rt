@@ -8,7 +8,14 @@ use std::fs;
 use std::io;
 
 // Settles the bytes, which come in as pieces of this size, and prints what they come to.
-fn report(rt: &LibcRuntime, what: &str, at: usize, table: &[u8], bytes: &[u8], piece: usize) -> io::Result<()> {
+fn report(
+    rt: &LibcRuntime,
+    what: &str,
+    at: usize,
+    table: &[u8],
+    bytes: &[u8],
+    piece: usize,
+) -> io::Result<()> {
     let mut settlement = Settlement::new(PublishedTable::new(table));
     for part in bytes.chunks(piece.max(1)) {
         settlement.feed(part);
@@ -35,7 +42,12 @@ fn damage(rt: &LibcRuntime, table: &[u8], file: &[u8]) -> Result<(), AnyError> {
 }
 
 // A file with so many remarks of no content before it.
-fn with_remarks(rt: &LibcRuntime, table: &[u8], file: &[u8], remarks: usize) -> Result<(), AnyError> {
+fn with_remarks(
+    rt: &LibcRuntime,
+    table: &[u8],
+    file: &[u8],
+    remarks: usize,
+) -> Result<(), AnyError> {
     let mut bytes = Vec::new(rt.alloc());
     for _ in 0..remarks {
         bytes.extend_from_slice(&[5, 0, 0])?;

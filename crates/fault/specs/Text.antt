@@ -6,5 +6,5 @@ use Rattle.std.specs.Written.{decimal}
 use Rattle.fault.specs.declared.Fault.{Fault}
 use Rattle.fault.specs.Causes.{code, layer, number}
 
-abbrev pub faultText : Fault → List ℕ
-faultText f = codes "fault layer " ++ (decimal (code (layer (f .cause))) ++ (codes " number " ++ (decimal (number (f .cause)) ++ (codes " place " ++ decimal (f .place)))))
+abbrev pub fault-text : Fault → List ℕ
+fault-text f = codes "fault layer " ++ (decimal (code (layer (f .cause))) ++ (codes " number " ++ (decimal (number (f .cause)) ++ (codes " place " ++ decimal (f .place)))))

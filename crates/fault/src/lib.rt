@@ -1,6 +1,6 @@
 // A refusal: which question got a no, and where.
 ghost use mathlib.Core.Path.{_≡_};
-ghost use Rattle.fault.specs.Text.{faultText};
+ghost use Rattle.fault.specs.Text.{fault-text};
 ghost use Rattle.std.specs.declared.option.Option.the-variants.{Some};
 use std::fmt;
 
@@ -18,7 +18,7 @@ pub struct Fault {
 }
 
 pub impl fmt::Display for Fault as FaultDisplay {
-    ghost shown = { λ f. Some (faultText f) };
+    ghost shown = { λ f. Some (fault-text f) };
 
     fn fmt<W: fmt::Write>(&self, f: &mut fmt::Formatter<W>) -> fmt::Result {
         let layer = self.cause.layer().code();

@@ -15,5 +15,6 @@ cond-le false n = omega arith
 
 pub marked-within : (s t : List ℕ) (marks : List Bool) (feed-in most : ℕ) → Marks s marks feed-in t → ((p : ℕ) → getD s p 0 ≤ most) → (p : ℕ) → getD t p 0 ≤ most + feed-in
 marked-within s t marks feed-in most m h p = elim (decLt p 8) [
-    yes l ↦ omega (arith, m .each p l, h p, cond-le (getD marks p false) feed-in)
-  | no n ↦ let z : length t ≤ p = omega (arith, m .places, n) in omega (arith, getD-past t p 0 z) ]
+  | yes l ↦ omega (arith, m .each p l, h p, cond-le (getD marks p false) feed-in)
+  | no n ↦ let z : length t ≤ p = omega (arith, m .places, n) in omega (arith, getD-past t p 0 z)
+]

@@ -19,6 +19,9 @@ impl Amounts {
     pub fn are_allowed(&self) -> bool
         ensures { λ r. ⌜ r ≡ allowed (now (self .entry)) ⌝ }
     {
-        self.draw <= LARGEST && self.feed_in <= LARGEST && self.store_in <= LARGEST && self.store_out <= LARGEST
+        self.draw <= LARGEST
+            && self.feed_in <= LARGEST
+            && self.store_in <= LARGEST
+            && self.store_out <= LARGEST
     }
 }

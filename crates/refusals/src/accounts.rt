@@ -8,8 +8,8 @@ mod tests {
     use fault::Fault;
     use fault::FaultDebug;
     use options::amounts::Amounts;
-    use options::flat::settles::FlatSettles;
     use options::flat::FlatOption;
+    use options::flat::settles::FlatSettles;
     use site::draft::Draft;
     use site::plant::PlantEntry;
     use statement::figures::Statement;
@@ -83,14 +83,88 @@ mod tests {
         let before = stated(&year)?;
         check_eq(before.totals.feed_in.nettable, 200)?;
         refused(year.enter_quarter(&table, 0, AMOUNTS), 3, 26, 0)?;
-        refused(year.enter_quarter(&table, 2, Amounts { draw: 50_001, ..AMOUNTS }), 3, 26, 2)?;
-        refused(year.enter_quarter(&table, 1, Amounts { draw: 50_001, ..AMOUNTS }), 3, 27, 1)?;
-        refused(year.enter_quarter(&table, 1, Amounts { feed_in: 50_001, ..AMOUNTS }), 3, 27, 1)?;
-        refused(year.enter_quarter(&table, 1, Amounts { store_in: 50_001, ..AMOUNTS }), 3, 27, 1)?;
-        refused(year.enter_quarter(&table, 1, Amounts { store_out: 50_001, ..AMOUNTS }), 3, 27, 1)?;
-        refused(year.enter_quarter(&PublishedTable::new(&bytes[0..35_135]), 1, AMOUNTS), 5, 28, 1)?;
+        refused(
+            year.enter_quarter(
+                &table,
+                2,
+                Amounts {
+                    draw: 50_001,
+                    ..AMOUNTS
+                },
+            ),
+            3,
+            26,
+            2,
+        )?;
+        refused(
+            year.enter_quarter(
+                &table,
+                1,
+                Amounts {
+                    draw: 50_001,
+                    ..AMOUNTS
+                },
+            ),
+            3,
+            27,
+            1,
+        )?;
+        refused(
+            year.enter_quarter(
+                &table,
+                1,
+                Amounts {
+                    feed_in: 50_001,
+                    ..AMOUNTS
+                },
+            ),
+            3,
+            27,
+            1,
+        )?;
+        refused(
+            year.enter_quarter(
+                &table,
+                1,
+                Amounts {
+                    store_in: 50_001,
+                    ..AMOUNTS
+                },
+            ),
+            3,
+            27,
+            1,
+        )?;
+        refused(
+            year.enter_quarter(
+                &table,
+                1,
+                Amounts {
+                    store_out: 50_001,
+                    ..AMOUNTS
+                },
+            ),
+            3,
+            27,
+            1,
+        )?;
+        refused(
+            year.enter_quarter(&PublishedTable::new(&bytes[0..35_135]), 1, AMOUNTS),
+            5,
+            28,
+            1,
+        )?;
         check_eq(stated(&year)?, before)?;
-        year.enter_quarter(&table, 1, Amounts { draw: 50_000, feed_in: 50_000, store_in: 50_000, store_out: 50_000 })?;
+        year.enter_quarter(
+            &table,
+            1,
+            Amounts {
+                draw: 50_000,
+                feed_in: 50_000,
+                store_in: 50_000,
+                store_out: 50_000,
+            },
+        )?;
         check_eq(stated(&year)?.totals.draw.draw, 50_300)
     }
 

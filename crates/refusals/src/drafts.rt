@@ -3,8 +3,8 @@
 mod tests {
     use crate::expected::refused;
     use fault::FaultDebug;
-    use options::flat::settles::FlatSettles;
     use options::flat::FlatOption;
+    use options::flat::settles::FlatSettles;
     use site::draft::Draft;
     use site::plant::PlantEntry;
     use std::test::*;
@@ -33,17 +33,67 @@ mod tests {
         let mut draft = Draft::new();
         draft.add_plant(PLANT)?;
         refused(draft.add_plant(PlantEntry { power: 0, ..PLANT }), 2, 13, 1)?;
-        refused(draft.add_plant(PlantEntry { power: 200_001, kind: 2, ..PLANT }), 2, 13, 1)?;
+        refused(
+            draft.add_plant(PlantEntry {
+                power: 200_001,
+                kind: 2,
+                ..PLANT
+            }),
+            2,
+            13,
+            1,
+        )?;
         refused(draft.add_plant(PlantEntry { kind: 2, ..PLANT }), 2, 14, 1)?;
-        refused(draft.add_plant(PlantEntry { marketing: 2, ..PLANT }), 2, 14, 1)?;
+        refused(
+            draft.add_plant(PlantEntry {
+                marketing: 2,
+                ..PLANT
+            }),
+            2,
+            14,
+            1,
+        )?;
         refused(draft.add_plant(PlantEntry { regime: 8, ..PLANT }), 2, 14, 1)?;
-        refused(draft.add_plant(PlantEntry { power: 2_001, kind: 1, ..PLANT }), 2, 15, 1)?;
-        refused(draft.add_plant(PlantEntry { power: 200_000, kind: 1, ..PLANT }), 2, 15, 1)?;
-        refused(draft.add_plant(PlantEntry { power: 199_001, ..PLANT }), 2, 16, 1)?;
+        refused(
+            draft.add_plant(PlantEntry {
+                power: 2_001,
+                kind: 1,
+                ..PLANT
+            }),
+            2,
+            15,
+            1,
+        )?;
+        refused(
+            draft.add_plant(PlantEntry {
+                power: 200_000,
+                kind: 1,
+                ..PLANT
+            }),
+            2,
+            15,
+            1,
+        )?;
+        refused(
+            draft.add_plant(PlantEntry {
+                power: 199_001,
+                ..PLANT
+            }),
+            2,
+            16,
+            1,
+        )?;
         check_eq(draft.register().count(), 1)?;
         check_eq(draft.register().power(), 1_000)?;
-        draft.add_plant(PlantEntry { power: 2_000, kind: 1, ..PLANT })?;
-        draft.add_plant(PlantEntry { power: 197_000, ..PLANT })?;
+        draft.add_plant(PlantEntry {
+            power: 2_000,
+            kind: 1,
+            ..PLANT
+        })?;
+        draft.add_plant(PlantEntry {
+            power: 197_000,
+            ..PLANT
+        })?;
         check_eq(draft.register().power(), 200_000)
     }
 
@@ -63,11 +113,21 @@ mod tests {
         refused(draft.check_fitness::<FlatOption>(), 2, 17, 0)?;
         draft.set_year(2026)?;
         refused(draft.check_fitness::<FlatOption>(), 2, 18, 0)?;
-        draft.add_plant(PlantEntry { marketing: 1, ..PLANT })?;
+        draft.add_plant(PlantEntry {
+            marketing: 1,
+            ..PLANT
+        })?;
         refused(draft.check_fitness::<FlatOption>(), 2, 18, 0)?;
-        draft.add_plant(PlantEntry { power: 29_000, ..PLANT })?;
+        draft.add_plant(PlantEntry {
+            power: 29_000,
+            ..PLANT
+        })?;
         draft.check_fitness::<FlatOption>()?;
-        draft.add_plant(PlantEntry { power: 2_000, kind: 1, ..PLANT })?;
+        draft.add_plant(PlantEntry {
+            power: 2_000,
+            kind: 1,
+            ..PLANT
+        })?;
         draft.check_fitness::<FlatOption>()?;
         draft.add_plant(PlantEntry { power: 1, ..PLANT })?;
         refused(draft.check_fitness::<FlatOption>(), 2, 19, 0)?;

@@ -1,8 +1,8 @@
 // A refusal as a test expects it.
-use fault::cause::CauseDebug;
-use fault::cause::Layer;
 use fault::Fault;
 use fault::FaultDebug;
+use fault::cause::CauseDebug;
+use fault::cause::Layer;
 use std::test::*;
 
 // Whether the answer is a refusal by this layer and this question, at this place.

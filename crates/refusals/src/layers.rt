@@ -8,8 +8,8 @@ mod tests {
     use fault::Fault;
     use fault::FaultDebug;
     use options::amounts::Amounts;
-    use options::flat::settles::FlatSettles;
     use options::flat::FlatOption;
+    use options::flat::settles::FlatSettles;
     use options::settlement_option::SettlementOption;
     use std::test::*;
 
@@ -29,7 +29,18 @@ mod tests {
             option.take(LARGEST, MARKS)?;
         }
         refused(option.take(LARGEST, MARKS), 4, 30, 35_136)?;
-        refused(option.take(Amounts { draw: 50_001, ..LARGEST }, MARKS), 4, 27, 35_136)?;
+        refused(
+            option.take(
+                Amounts {
+                    draw: 50_001,
+                    ..LARGEST
+                },
+                MARKS,
+            ),
+            4,
+            27,
+            35_136,
+        )?;
         check_eq(option.quarters(), 35_136)?;
         check_eq(option.draw(), 1_756_800_000)?;
         check_eq(option.marked(7), 1_756_800_000)?;
@@ -56,6 +67,11 @@ mod tests {
         refused(asked(&table, 7, 35_136), 5, 28, 35_136)?;
         refused(asked(&table, 8, 35_136), 5, 28, 35_136)?;
         refused(asked(&table, 8, 35_135), 5, 31, 35_135)?;
-        refused(asked(&PublishedTable::new(&bytes[1..35_136]), 0, 0), 5, 28, 0)
+        refused(
+            asked(&PublishedTable::new(&bytes[1..35_136]), 0, 0),
+            5,
+            28,
+            0,
+        )
     }
 }

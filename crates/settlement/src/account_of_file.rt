@@ -1,10 +1,10 @@
 // The account as far as its file has come, under one option.
-use account::year::Opened;
-use calendar::value_calendar::ValueCalendar;
 use crate::content::amounts_offered;
 use crate::content::plant_offered;
-use fault::cause::Cause;
+use account::year::Opened;
+use calendar::value_calendar::ValueCalendar;
 use fault::Fault;
+use fault::cause::Cause;
 use options::settlement_option::SettlementOption;
 use site::draft::Draft;
 use statement::figures::Statement;
@@ -38,14 +38,25 @@ impl<O: SettlementOption + Drop> AccountOfFile<O> {
     }
 
     // Puts a record to the account. A record that the account's state has no call for is out of order.
-    pub(crate) fn put<C: ValueCalendar>(&mut self, calendar: &C, record: &Record) -> Result<(), Fault> {
+    pub(crate) fn put<C: ValueCalendar>(
+        &mut self,
+        calendar: &C,
+        record: &Record,
+    ) -> Result<(), Fault> {
         if let Record::Contract(_) = record {
             self.open()?;
         }
         match (self, record) {
-            (AccountOfFile::Draft(draft), Record::Plant(content)) => draft.add_plant(plant_offered(content)),
-            (AccountOfFile::Opened(year), Record::Contract(content)) => year.begin_contract(number32(content, 0)),
-            (AccountOfFile::Opened(year), Record::Quarter(content)) => year.enter_quarter(calendar, number16(content, 0) as u32, amounts_offered(content)),
+            (AccountOfFile::Draft(draft), Record::Plant(content)) => draft.add_plant(plant_offered(
+                content,
+            )),
+            (AccountOfFile::Opened(year), Record::Contract(content)) =>
+                year.begin_contract(number32(content, 0)),
+            (AccountOfFile::Opened(year), Record::Quarter(content)) => year.enter_quarter(
+                calendar,
+                number16(content, 0) as u32,
+                amounts_offered(content),
+            ),
             (_, Record::Remark(_)) => Ok(()),
             _ => Err(Cause::OutOfOrder.at(0)),
         }

@@ -4,8 +4,8 @@ use crate::stop::Stop;
 use crate::stop::StopFromFault;
 use calendar::value_calendar::ValueCalendar;
 use fault::cause::Cause;
-use options::flat::settles::FlatSettles;
 use options::flat::FlatOption;
+use options::flat::settles::FlatSettles;
 use statement::figures::Statement;
 use tagged_file::number::byte;
 use tagged_file::number::number16;
@@ -38,7 +38,11 @@ impl Chosen {
     }
 
     // The account after a record other than the end.
-    pub(crate) fn put<C: ValueCalendar>(self, calendar: &C, record: &Record) -> Result<Chosen, Stop> {
+    pub(crate) fn put<C: ValueCalendar>(
+        self,
+        calendar: &C,
+        record: &Record,
+    ) -> Result<Chosen, Stop> {
         match (self, record) {
             (_, Record::Year(content)) => Chosen::of_year(content),
             (Chosen::None, record) => before_the_year(record),

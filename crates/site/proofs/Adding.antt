@@ -26,12 +26,12 @@ pub record Spelled (e : PlantEntry) (p : Plant) : Type 0 where
 pub spells : (e : PlantEntry) (p : Plant) → Some p ≡ entered e → Spelled e p
 spells e p given = ⊎-elim
     (λ known.
-        let here : Some p ≡ Some (spelled e) = given ∙ cond-true (codes-known e) _ _ known in
-        let same : p ≡ spelled e = cc in
-        record { is = same; regime = omega (arith, ap (λ x. x .regime) same, leb-true (e .regime) 7 (and-parts (leb (e .marketing) 1) _ (and-parts (leb (e .kind) 1) _ known .1) .1)) })
+    let here : Some p ≡ Some (spelled e) = given ∙ cond-true (codes-known e) _ _ known in
+    let same : p ≡ spelled e = cc in
+    record { is = same; regime = omega (arith, ap (λ x. x .regime) same, leb-true (e .regime) 7 (and-parts (leb (e .marketing) 1) _ (and-parts (leb (e .kind) 1) _ known .1) .1)) })
     (λ unknown.
-        let here : Some p ≡ None = given ∙ cond-false (codes-known e) _ _ unknown in
-        absurd (let z : _≡_ {A = ℕ} 0 1 = cc in omega arith))
+    let here : Some p ≡ None = given ∙ cond-false (codes-known e) _ _ unknown in
+    absurd (let z : _≡_ {A = ℕ} 0 1 = cc in omega arith))
     (cases-bool (codes-known e))
 
 module _ (g : Register) (p : Plant) (room : g .count < 8) where

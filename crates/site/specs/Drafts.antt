@@ -39,7 +39,7 @@ AddsPlant d p r e = (r ≡ adding (d .register) p) × elim r [ Ok _ ↦ PlantAdd
 -- whether a draft is fit for an option with this limit: a year, a supported plant, and ordinary power within the limit
 abbrev pub fitness : ℕ → Draft → Answer
 fitness limit d = asked 0 (
-      (isSome (d .year), YearNotSet)
+    (isSome (d .year), YearNotSet)
     ∷ (some-supported (d .register .plants), NoSupportedPlant)
     ∷ (leb (kind-power Ordinary (d .register .plants)) limit, OrdinaryPowerExceeded)
     ∷ []) (Ok tt)

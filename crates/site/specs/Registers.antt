@@ -20,7 +20,7 @@ pub record Empty (g : Register) : Type 0 where
 -- the questions of a plant that is offered to the next free place
 abbrev pub adding : Register → PlantEntry → Answer
 adding g e = asked (g .count) (
-      (ltb (g .count) 8, RegisterFull)
+    (ltb (g .count) 8, RegisterFull)
     ∷ (leb 1 (e .power) && leb (e .power) 200000, PowerOutOfRange)
     ∷ (codes-known e, PlantCodeUnknown)
     ∷ (leb (kind-power PlugIn (g .plants) + power-of PlugIn (spelled e)) 2000, PlugInPowerExceeded)

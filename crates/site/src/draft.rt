@@ -5,8 +5,8 @@ use crate::plant::Kind;
 use crate::plant::PlantEntry;
 use crate::register::Register;
 use crate::year::is_settleable;
-use fault::cause::Cause;
 use fault::Fault;
+use fault::cause::Cause;
 use options::settlement_option::SettlementOption;
 
 #[derive(Drop)]

@@ -66,7 +66,11 @@ pub struct Statement {
     pub contract_count: usize,
 }
 
-pub const NO_DRAW: DrawFigures = DrawFigures { draw: 0, netted: 0, levied: 0 };
+pub const NO_DRAW: DrawFigures = DrawFigures {
+    draw: 0,
+    netted: 0,
+    levied: 0,
+};
 
 pub const NO_PLANT_LINE: PlantLine = PlantLine {
     place: 0,
@@ -76,7 +80,10 @@ pub const NO_PLANT_LINE: PlantLine = PlantLine {
     unvalued: 0,
 };
 
-pub const NO_CONTRACT_LINE: ContractLine = ContractLine { number: 0, draw: NO_DRAW };
+pub const NO_CONTRACT_LINE: ContractLine = ContractLine {
+    number: 0,
+    draw: NO_DRAW,
+};
 
 impl Statement {
     // A statement for a caller to have filled.

@@ -13,7 +13,11 @@ pub impl fmt::Display for DrawFigures as DrawFiguresDisplay {
     ghost shown = { λ x. Some (draw-text x) };
 
     fn fmt<W: fmt::Write>(&self, f: &mut fmt::Formatter<W>) -> fmt::Result {
-        let DrawFigures { draw, netted, levied } = *self;
+        let DrawFigures {
+            draw,
+            netted,
+            levied,
+        } = *self;
         write!(f, "draw {draw} netted {netted} levied {levied}")
     }
 }
@@ -22,8 +26,17 @@ pub impl fmt::Display for FeedInFigures as FeedInFiguresDisplay {
     ghost shown = { λ x. Some (feed-in-text x) };
 
     fn fmt<W: fmt::Write>(&self, f: &mut fmt::Formatter<W>) -> fmt::Result {
-        let FeedInFigures { feed_in, base, nettable, unassigned, unused } = *self;
-        write!(f, "feed {feed_in} base {base} nettable {nettable} unassigned {unassigned} unused {unused}")
+        let FeedInFigures {
+            feed_in,
+            base,
+            nettable,
+            unassigned,
+            unused,
+        } = *self;
+        write!(
+            f,
+            "feed {feed_in} base {base} nettable {nettable} unassigned {unassigned} unused {unused}"
+        )
     }
 }
 
@@ -31,8 +44,17 @@ pub impl fmt::Display for PlantLine as PlantLineDisplay {
     ghost shown = { λ x. Some (plant-text x) };
 
     fn fmt<W: fmt::Write>(&self, f: &mut fmt::Formatter<W>) -> fmt::Result {
-        let PlantLine { place, portion, marked, valued, unvalued } = *self;
-        write!(f, "plant {place} portion {portion} marked {marked} valued {valued} unvalued {unvalued}")
+        let PlantLine {
+            place,
+            portion,
+            marked,
+            valued,
+            unvalued,
+        } = *self;
+        write!(
+            f,
+            "plant {place} portion {portion} marked {marked} valued {valued} unvalued {unvalued}"
+        )
     }
 }
 
@@ -61,10 +83,20 @@ pub impl fmt::Display for Statement as StatementDisplay {
     ghost shown = { λ x. Some (statement-text x) };
 
     fn fmt<W: fmt::Write>(&self, f: &mut fmt::Formatter<W>) -> fmt::Result {
-        let Statement { year, option, quarters, standing, totals, .. } = *self;
+        let Statement {
+            year,
+            option,
+            quarters,
+            standing,
+            totals,
+            ..
+        } = *self;
         let draw = totals.draw;
         let feed_in = totals.feed_in;
-        write!(f, "year {year} option {option} quarters {quarters} {standing}\n")?;
+        write!(
+            f,
+            "year {year} option {option} quarters {quarters} {standing}\n"
+        )?;
         write!(f, "{draw}\n")?;
         write!(f, "{feed_in}\n")?;
         for plant in self.plant_lines() {

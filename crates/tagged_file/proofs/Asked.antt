@@ -21,20 +21,20 @@ use Rattle.fault.specs.declared.cause.Cause.the-variants as causes
 use Rattle.tagged_file.specs.declared.record.Tag.{Tag}
 use Rattle.tagged_file.specs.declared.record.Tag.the-variants as tags
 use Rattle.tagged_file.specs.declared.record.Record.{Record}
-use Rattle.tagged_file.specs.Format.{headerBytes, mostRemark, longestBytes, tagOf, right, tagIn, contentIn}
-use Rattle.tagged_file.specs.Numbers.{byteAt}
-use Rattle.tagged_file.specs.Decoded.{tagHere, lengthHere, sizeHere, contentHere, rightFor, questions, Decoded, decoded, seen, AnyFits}
+use Rattle.tagged_file.specs.Format.{header-bytes, most-remark, longest-bytes, tag-of, right, tag-in, content-in}
+use Rattle.tagged_file.specs.Numbers.{byte-at}
+use Rattle.tagged_file.specs.Decoded.{tag-here, length-here, size-here, content-here, right-for, questions, Decoded, decoded, seen, AnyFits}
 
 -- no content is longer than that of a remark
-right-le : (t : Tag) (n : ℕ) → right t n ≡ true → n ≤ mostRemark
+right-le : (t : Tag) (n : ℕ) → right t n ≡ true → n ≤ most-remark
 right-le tags.Year n e = omega (arith, eqb-true n _ e)
 right-le tags.Plant n e = omega (arith, eqb-true n _ e)
 right-le tags.Contract n e = omega (arith, eqb-true n _ e)
 right-le tags.Quarter n e = omega (arith, eqb-true n _ e)
-right-le tags.Remark n e = leb-true n mostRemark e
+right-le tags.Remark n e = leb-true n most-remark e
 right-le tags.End n e = omega (arith, eqb-true n _ e)
 
-right-for-le : (o : Option Tag) (n : ℕ) → rightFor o n ≡ true → n ≤ mostRemark
+right-for-le : (o : Option Tag) (n : ℕ) → right-for o n ≡ true → n ≤ most-remark
 right-for-le (Some t) n e = right-le t n e
 right-for-le None n e = absurd (let z : _≡_ {A = ℕ} 0 1 = cc in omega arith)
 
@@ -53,20 +53,20 @@ asked-ok p ((false, c) ∷ qs) x y e = absurd (let z : _≡_ {A = ℕ} 0 1 = cc 
 pub any-fits : (p : ℕ) (bs : List ℕ) (r : Result (Record × ℕ) Fault) → seen r ≡ decoded p bs → AnyFits bs r
 any-fits p bs (Err f) e = tt
 any-fits p bs (Ok a) e =
-    let on = asked-ok p (questions bs) (tagHere bs, contentHere bs, sizeHere bs) (Some (tagIn (a .0)), contentIn (a .0), a .1) e in
-    let takes : right (tagIn (a .0)) (lengthHere bs) ≡ true = ap (λ x. rightFor (x .0) (lengthHere bs)) (sym (on .1)) ∙ on .0 .1 .1 .0 in
-    let there : sizeHere bs ≤ length bs = leb-true _ _ (on .0 .1 .1 .1 .0) in
-    let long : length (contentIn (a .0)) ≡ lengthHere bs = ap (λ x. length (x .1)) (sym (on .1)) ∙ length-take-le (lengthHere bs) (drop headerBytes bs) (omega (arith, length-drop headerBytes bs)) in
-    let size : sizeHere bs ≡ a .1 = ap (λ x. x .2) (on .1) in
-    record { content = ap (right (tagIn (a .0))) long ∙ takes; size = omega arith; within = omega arith; longest = omega (arith, right-le (tagIn (a .0)) (lengthHere bs) takes) }
+    let on = asked-ok p (questions bs) (tag-here bs, content-here bs, size-here bs) (Some (tag-in (a .0)), content-in (a .0), a .1) e in
+    let takes : right (tag-in (a .0)) (length-here bs) ≡ true = ap (λ x. right-for (x .0) (length-here bs)) (sym (on .1)) ∙ on .0 .1 .1 .0 in
+    let there : size-here bs ≤ length bs = leb-true _ _ (on .0 .1 .1 .1 .0) in
+    let long : length (content-in (a .0)) ≡ length-here bs = ap (λ x. length (x .1)) (sym (on .1)) ∙ length-take-le (length-here bs) (drop header-bytes bs) (omega (arith, length-drop header-bytes bs)) in
+    let size : size-here bs ≡ a .1 = ap (λ x. x .2) (on .1) in
+    record { content = ap (right (tag-in (a .0))) long ∙ takes; size = omega arith; within = omega arith; longest = omega (arith, right-le (tag-in (a .0)) (length-here bs) takes) }
 
 -- the four questions, by what they ask about
 abbrev asked-of : ℕ → Bool → Option Tag → ℕ → Bool → List ℕ → Decoded
 asked-of p header tag n there content =
-    asked p ((header, causes.HeaderCutOff) ∷ (isSome tag, causes.TagUnknown) ∷ (rightFor tag n, causes.LengthWrong) ∷ (there, causes.ContentCutOff) ∷ []) (Ok (tag, content, headerBytes + n))
+    asked p ((header, causes.HeaderCutOff) ∷ (isSome tag, causes.TagUnknown) ∷ (right-for tag n, causes.LengthWrong) ∷ (there, causes.ContentCutOff) ∷ []) (Ok (tag, content, header-bytes + n))
 
 -- the content matters only where its length is right
-same-asked : (p : ℕ) (b : Bool) (o : Option Tag) (n : ℕ) (x y : Bool) (c d : List ℕ) → (rightFor o n ≡ true → (x ≡ y) × (c ≡ d)) → asked-of p b o n x c ≡ asked-of p b o n y d
+same-asked : (p : ℕ) (b : Bool) (o : Option Tag) (n : ℕ) (x y : Bool) (c d : List ℕ) → (right-for o n ≡ true → (x ≡ y) × (c ≡ d)) → asked-of p b o n x c ≡ asked-of p b o n y d
 same-asked p false o n x y c d h = refl
 same-asked p true None n x y c d h = refl
 same-asked p true (Some t) n x y c d h =
@@ -76,20 +76,20 @@ same-asked p true (Some t) n x y c d h =
     (cases-bool (right t n))
 
 -- content that is there is the same whatever follows
-same-content : (bs rest : List ℕ) (n : ℕ) → headerBytes + n ≤ length bs → take n (drop headerBytes (bs ++ rest)) ≡ take n (drop headerBytes bs)
-same-content bs rest n h = ap (take n) (drop-append-le headerBytes bs rest (omega arith)) ∙ take-append-le n (drop headerBytes bs) rest (omega (arith, length-drop headerBytes bs))
+same-content : (bs rest : List ℕ) (n : ℕ) → header-bytes + n ≤ length bs → take n (drop header-bytes (bs ++ rest)) ≡ take n (drop header-bytes bs)
+same-content bs rest n h = ap (take n) (drop-append-le header-bytes bs rest (omega arith)) ∙ take-append-le n (drop header-bytes bs) rest (omega (arith, length-drop header-bytes bs))
 
 -- bytes among which the longest record would be whole say the same whatever follows
-pub decoded-long : (p : ℕ) (bs rest : List ℕ) → longestBytes ≤ length bs → decoded p (bs ++ rest) ≡ decoded p bs
+pub decoded-long : (p : ℕ) (bs rest : List ℕ) → longest-bytes ≤ length bs → decoded p (bs ++ rest) ≡ decoded p bs
 decoded-long p bs rest l =
     let all = bs ++ rest in
     let longer : length bs ≤ length all = omega (arith, length-append bs rest) in
-    let front : (k : ℕ) → k < headerBytes → byteAt all k ≡ byteAt bs k = λ k h. getD-append-left bs rest 0 k (omega arith) in
+    let front : (k : ℕ) → k < header-bytes → byte-at all k ≡ byte-at bs k = λ k h. getD-append-left bs rest 0 k (omega arith) in
     let there : (n : ℕ) → n ≤ length bs → leb n (length all) ≡ leb n (length bs) = λ n h. le-leb n _ (omega arith) ∙ sym (le-leb n _ h) in
-    let size : lengthHere all ≡ lengthHere bs = omega (arith, front 1 (omega arith), front 2 (omega arith)) in
-    let of : Bool → Option Tag → ℕ → Decoded = λ header tag n. asked-of p header tag n (leb (headerBytes + n) (length all)) (take n (drop headerBytes all)) in
-    ap (λ header. of header (tagHere all) (lengthHere all)) (there headerBytes (omega arith))
-    ∙ ap (λ b. of (leb headerBytes (length bs)) (tagOf b) (lengthHere all)) (front 0 (omega arith))
-    ∙ ap (of (leb headerBytes (length bs)) (tagHere bs)) size
-    ∙ same-asked p _ (tagHere bs) (lengthHere bs) _ _ _ _
-    (λ e. let h : sizeHere bs ≤ length bs = omega (arith, right-for-le (tagHere bs) (lengthHere bs) e) in (there (sizeHere bs) h, same-content bs rest (lengthHere bs) h))
+    let size : length-here all ≡ length-here bs = omega (arith, front 1 (omega arith), front 2 (omega arith)) in
+    let of : Bool → Option Tag → ℕ → Decoded = λ header tag n. asked-of p header tag n (leb (header-bytes + n) (length all)) (take n (drop header-bytes all)) in
+    ap (λ header. of header (tag-here all) (length-here all)) (there header-bytes (omega arith))
+    ∙ ap (λ b. of (leb header-bytes (length bs)) (tag-of b) (length-here all)) (front 0 (omega arith))
+    ∙ ap (of (leb header-bytes (length bs)) (tag-here bs)) size
+    ∙ same-asked p _ (tag-here bs) (length-here bs) _ _ _ _
+    (λ e. let h : size-here bs ≤ length bs = omega (arith, right-for-le (tag-here bs) (length-here bs) e) in (there (size-here bs) h, same-content bs rest (length-here bs) h))

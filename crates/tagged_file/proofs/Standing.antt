@@ -11,9 +11,9 @@ use Rattle.std.proofs.shelf.Lists.{drop-append-le, drop-drop, nil-from-length}
 use Rattle.std.proofs.shelf.Tests.{leb-true, or-cases}
 use Rattle.tagged_file.specs.declared.window.Window.{Window}
 use Rattle.tagged_file.specs.Decoded.{Decoded, decoded}
-use Rattle.tagged_file.specs.Format.{longestBytes}
+use Rattle.tagged_file.specs.Format.{longest-bytes}
 use Rattle.tagged_file.specs.Held.{pending, ready, Fed, Passed}
-use Rattle.tagged_file.specs.Limits.{mostOffset}
+use Rattle.tagged_file.specs.Limits.{most-offset}
 use Rattle.tagged_file.specs.Standing.{StandsOn, AnswersForFile}
 use Rattle.tagged_file.proofs.Asked.{decoded-long}
 use Rattle.tagged_file.proofs.Parts.{drop-min}
@@ -32,7 +32,7 @@ stands-passed size w v p file rest s =
     let n = min size (length (pending w)) in
     record {
       on = ap (λ k. drop k file) (p .offset)
-          ∙ drop-min (w .offset + n) mostOffset file (s .told)
+          ∙ drop-min (w .offset + n) most-offset file (s .told)
           ∙ sym (drop-drop n (w .offset) file)
           ∙ ap (drop n) (s .on)
           ∙ drop-append-le n (pending w) rest (omega arith)
@@ -47,7 +47,7 @@ held-whole w p rest over r =
     ⊎-elim
     (λ long. decoded-long p (pending w) rest (leb-true _ _ long))
     (λ e. ap (λ l. decoded p (pending w ++ l)) (over e) ∙ ap (decoded p) (append-nil (pending w)))
-    (or-cases (leb longestBytes (length (pending w))) (w .finished) r)
+    (or-cases (leb longest-bytes (length (pending w))) (w .finished) r)
 
 -- a window that is ready answers for the whole file
 pub answers-for-file : (w : Window) (answer : Decoded) → answer ≡ decoded (w .offset) (pending w) → AnswersForFile w answer

@@ -14,43 +14,43 @@ use Rattle.tagged_file.specs.declared.record.Tag.the-variants as tags
 use Rattle.tagged_file.specs.declared.order.Stage.{Stage}
 use Rattle.tagged_file.specs.declared.order.Stage.the-variants as stages
 use Rattle.tagged_file.specs.declared.order.Order.{Order}
-use Rattle.tagged_file.specs.Limits.{mostRemarks}
+use Rattle.tagged_file.specs.Limits.{most-remarks}
 
 -- the year was read
-abbrev pub hasYear : Stage → Bool
-hasYear stages.Start = false
-hasYear stages.Plants = true
-hasYear stages.Contracts = true
-hasYear stages.Over = true
+abbrev pub has-year : Stage → Bool
+has-year stages.Start = false
+has-year stages.Plants = true
+has-year stages.Contracts = true
+has-year stages.Over = true
 
 -- a contract was read
-abbrev pub hasContract : Stage → Bool
-hasContract stages.Start = false
-hasContract stages.Plants = false
-hasContract stages.Contracts = true
-hasContract stages.Over = true
+abbrev pub has-contract : Stage → Bool
+has-contract stages.Start = false
+has-contract stages.Plants = false
+has-contract stages.Contracts = true
+has-contract stages.Over = true
 
 -- the end was read
-abbrev pub hasEnd : Stage → Bool
-hasEnd stages.Start = false
-hasEnd stages.Plants = false
-hasEnd stages.Contracts = false
-hasEnd stages.Over = true
+abbrev pub has-end : Stage → Bool
+has-end stages.Start = false
+has-end stages.Plants = false
+has-end stages.Contracts = false
+has-end stages.Over = true
 
 -- whether a record may stand here, after so many remarks; nothing may stand after the end
 abbrev pub allowed : Stage → ℕ → Tag → Bool
 -- the year once, and first but for remarks
-allowed s n tags.Year = not (hasYear s)
+allowed s n tags.Year = not (has-year s)
 -- plants after the year and before the first contract
-allowed s n tags.Plant = hasYear s && not (hasContract s)
+allowed s n tags.Plant = has-year s && not (has-contract s)
 -- contracts after the year
-allowed s n tags.Contract = hasYear s && not (hasEnd s)
+allowed s n tags.Contract = has-year s && not (has-end s)
 -- quarters after the first contract
-allowed s n tags.Quarter = hasContract s && not (hasEnd s)
+allowed s n tags.Quarter = has-contract s && not (has-end s)
 -- remarks anywhere before the end, as long as there are not too many
-allowed s n tags.Remark = not (hasEnd s) && ltb n mostRemarks
+allowed s n tags.Remark = not (has-end s) && ltb n most-remarks
 -- the end after the first contract, and once
-allowed s n tags.End = hasContract s && not (hasEnd s)
+allowed s n tags.End = has-contract s && not (has-end s)
 
 -- the stage after a record that was allowed
 abbrev pub next : Stage → Tag → Stage

@@ -6,20 +6,20 @@ use Prim.Native.Nat.{ℕ, _+_, _-_, min}
 use lib.Dec.{leb}
 use lib.ListN.{length, take, drop}
 use Rattle.tagged_file.specs.declared.window.Window.{Window}
-use Rattle.tagged_file.specs.Format.{longestBytes}
-use Rattle.tagged_file.specs.Limits.{windowBytes, mostOffset}
+use Rattle.tagged_file.specs.Format.{longest-bytes}
+use Rattle.tagged_file.specs.Limits.{window-bytes, most-offset}
 
 -- the bytes that came in and were not yet passed
 abbrev pub pending : Window → List ℕ
 pending w = take (w .end - w .start) (drop (w .start) (w .bytes))
 
 -- how many bytes a window can still take in
-abbrev pub roomIn : Window → ℕ
-roomIn w = windowBytes - length (pending w)
+abbrev pub room-in : Window → ℕ
+room-in w = window-bytes - length (pending w)
 
 -- no record can need bytes that are still to come: the longest record would be held whole, or the input has no more
 abbrev pub ready : Window → Bool
-ready w = leb longestBytes (length (pending w)) || w .finished
+ready w = leb longest-bytes (length (pending w)) || w .finished
 
 -- nothing came in yet
 pub record Fresh (w : Window) : Type 0 where
@@ -29,7 +29,7 @@ pub record Fresh (w : Window) : Type 0 where
 
 -- v is w after the first n bytes of a piece came in: as many as there is room for
 pub record Fed (w : Window) (piece : List ℕ) (n : ℕ) (v : Window) : Type 0 where
-  pub count : n ≡ min (roomIn w) (length piece)
+  pub count : n ≡ min (room-in w) (length piece)
   pub held : pending v ≡ pending w ++ take n piece
   pub offset : v .offset ≡ w .offset
   pub finished : v .finished ≡ w .finished
@@ -43,7 +43,7 @@ pub record Finished (w v : Window) : Type 0 where
 -- v is w after its first bytes were passed, or all of them if it holds fewer; the offset goes on by as many, and stays at the largest that can be told
 pub record Passed (w : Window) (size : ℕ) (v : Window) : Type 0 where
   pub held : pending v ≡ drop size (pending w)
-  pub offset : v .offset ≡ min (w .offset + min size (length (pending w))) mostOffset
+  pub offset : v .offset ≡ min (w .offset + min size (length (pending w))) most-offset
   pub finished : v .finished ≡ w .finished
 
 -- v holds what w does, from its first place on

@@ -2,13 +2,13 @@
 use Prim.Native.Nat.{ℕ, _-_, _^_}
 
 -- the bytes that a window holds
-abbrev pub windowBytes : ℕ
-windowBytes = 32768
+abbrev pub window-bytes : ℕ
+window-bytes = 32768
 
 -- the remarks of a file
-abbrev pub mostRemarks : ℕ
-mostRemarks = 4096
+abbrev pub most-remarks : ℕ
+most-remarks = 4096
 
 -- the largest offset: the largest number of 64 bits
-abbrev pub mostOffset : ℕ
-mostOffset = 2 ^ 64 - 1
+abbrev pub most-offset : ℕ
+most-offset = 2 ^ 64 - 1

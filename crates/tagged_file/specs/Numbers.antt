@@ -4,13 +4,13 @@ use Prim.Native.Nat.{ℕ, _+_, _*_}
 use lib.ListN.{getD}
 
 -- the byte at a place
-abbrev pub byteAt : List ℕ → ℕ → ℕ
-byteAt bs i = getD bs i 0
+abbrev pub byte-at : List ℕ → ℕ → ℕ
+byte-at bs i = getD bs i 0
 
 -- the two bytes from a place on, as one number
-abbrev pub twoAt : List ℕ → ℕ → ℕ
-twoAt bs i = byteAt bs i * 256 + byteAt bs (i + 1)
+abbrev pub two-at : List ℕ → ℕ → ℕ
+two-at bs i = byte-at bs i * 256 + byte-at bs (i + 1)
 
 -- the four bytes from a place on, as one number
-abbrev pub fourAt : List ℕ → ℕ → ℕ
-fourAt bs i = twoAt bs i * 65536 + twoAt bs (i + 2)
+abbrev pub four-at : List ℕ → ℕ → ℕ
+four-at bs i = two-at bs i * 65536 + two-at bs (i + 2)

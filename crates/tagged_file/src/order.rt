@@ -1,6 +1,6 @@
 // What has been read of a file, so that it can be told which record may follow.
 ghost use Prim.Native.Nat.{_≤_};
-ghost use Rattle.tagged_file.specs.Limits.{mostRemarks};
+ghost use Rattle.tagged_file.specs.Limits.{most-remarks};
 
 pub mod following;
 
@@ -25,5 +25,5 @@ pub enum Stage {
 pub struct Order {
     stage: Stage,
     remarks: u16,
-    ghost few: { remarks ≤ mostRemarks },
+    ghost few: { remarks ≤ most-remarks },
 }

@@ -1,6 +1,6 @@
 // The part of the input that is held: it came in, and was not yet passed.
 ghost use Prim.Native.Nat.{_≤_};
-ghost use Rattle.tagged_file.specs.Limits.{windowBytes};
+ghost use Rattle.tagged_file.specs.Limits.{window-bytes};
 use crate::record::HEADER;
 use crate::record::LONGEST_REMARK;
 
@@ -25,5 +25,5 @@ pub struct Window {
     offset: u64,
     finished: bool,
     ghost ordered: { start ≤ end },
-    ghost within: { end ≤ windowBytes },
+    ghost within: { end ≤ window-bytes },
 }

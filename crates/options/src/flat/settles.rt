@@ -9,8 +9,8 @@ use crate::amounts::Amounts;
 use crate::settlement_option::LONGEST_YEAR;
 use crate::settlement_option::PLACES;
 use crate::settlement_option::SettlementOption;
-use fault::cause::Cause;
 use fault::Fault;
+use fault::cause::Cause;
 
 // The most ordinary power of a flat site, in W.
 const LIMIT: u32 = 30_000;
@@ -104,12 +104,20 @@ pub impl SettlementOption for FlatOption as FlatSettles {
     }
 
     fn marked(&self, place: usize) -> u32 {
-        if place < PLACES { self.marked[place] } else { 0 }
+        if place < PLACES {
+            self.marked[place]
+        } else {
+            0
+        }
     }
 
     fn base(&self) -> u32 {
         let cap = CAP_PER_WATT * self.site_power as u64;
-        if (self.feed_in as u64) < cap { self.feed_in } else { cap as u32 }
+        if (self.feed_in as u64) < cap {
+            self.feed_in
+        } else {
+            cap as u32
+        }
     }
 
     fn nettable(&self) -> u32 {
@@ -121,6 +129,10 @@ pub impl SettlementOption for FlatOption as FlatSettles {
     }
 
     fn pair(&self, place: usize) -> (u32, u32) {
-        if place < PLACES { (self.marked[place], self.feed_in) } else { (0, 0) }
+        if place < PLACES {
+            (self.marked[place], self.feed_in)
+        } else {
+            (0, 0)
+        }
     }
 }

@@ -8,12 +8,13 @@ use crate::plant::Kind;
 use crate::plant::Marketing;
 use crate::plant::Plant;
 use crate::plant::PlantEntry;
-use fault::cause::Cause;
 use fault::Fault;
+use fault::cause::Cause;
 use options::settlement_option::PLACES;
 
 // The most power, in W: of a site, and so of each plant, and of all plug-in plants together.
 const MOST_POWER: u32 = 200_000;
+
 const MOST_PLUG_IN_POWER: u32 = 2_000;
 
 const NO_PLANT: Plant = Plant {
@@ -105,7 +106,10 @@ impl Register {
         }
         let mut plants = self.plants;
         plants[place] = plant;
-        *self = Register { plants, count: place + 1 };
+        *self = Register {
+            plants,
+            count: place + 1,
+        };
         Ok(())
     }
 }

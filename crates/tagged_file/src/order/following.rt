@@ -1,6 +1,6 @@
 // Which record may follow: the stage of the file together with the record's tag.
 ghost use mathlib.Core.Path.{_≡_};
-ghost use Rattle.tagged_file.specs.Follows.{hasEnd, AtStart, following, Follows};
+ghost use Rattle.tagged_file.specs.Follows.{has-end, AtStart, following, Follows};
 use super::Order;
 use super::REMARKS;
 use super::Stage;
@@ -20,7 +20,7 @@ impl Order {
 
     // Whether the end was read.
     pub fn is_over(&self) -> bool
-        ensures { λ r. ⌜ r ≡ hasEnd (now (self .entry) .stage) ⌝ }
+        ensures { λ r. ⌜ r ≡ has-end (now (self .entry) .stage) ⌝ }
     {
         matches!(self.stage, Stage::Over)
     }

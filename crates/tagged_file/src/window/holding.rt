@@ -1,7 +1,7 @@
 // What a window holds of the input, and the record at its front.
 ghost use mathlib.Core.Path.{_≡_};
 ghost use Rattle.tagged_file.specs.Decoded.{decoded, seen, AnyFits};
-ghost use Rattle.tagged_file.specs.Held.{pending, roomIn, ready};
+ghost use Rattle.tagged_file.specs.Held.{pending, room-in, ready};
 ghost use Rattle.tagged_file.specs.Standing.{AnswersForFile};
 use super::CAPACITY;
 use super::LONGEST;
@@ -27,7 +27,7 @@ impl Window {
 
     // How many bytes can still come in.
     pub fn room(&self) -> usize
-        ensures { λ r. ⌜ r ≡ roomIn (now (self .entry)) ⌝ }
+        ensures { λ r. ⌜ r ≡ room-in (now (self .entry)) ⌝ }
     {
         CAPACITY - self.held().len()
     }

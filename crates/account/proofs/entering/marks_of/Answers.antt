@@ -45,12 +45,13 @@ loop-place-again g c =
     let fits : r .count ≤ length (r .plants) = omega (arith, r .places, r .held) in
     let first = c .plants-plant-items .ensures in
     let regime : getD items k no-plant .regime ≡ getD (r .plants) k no-plant .regime = ap (λ (p : Plant). p .regime) (item-row (r .plants) items (r .count) fits first k no-plant (c .loop-place-test .taken)) in
-    let answer = yes-or-no (m .span cal) (m .above cal) (getD items k no-plant .regime) (c .args .quarter) (omega (arith, regime, r .regimes k)) _ (c .in-Continue-marks .ensures tt) in
-    (filled-more (mark m cal r (c .args .quarter)) false 8 k (c .loop-place .marks) (c .in-Continue-marks .field-0)
-       (omega (arith, items-count (r .plants) items (r .count) fits first, r .held))
-       (answer .1 ∙ ap (λ x. m .above cal x (c .args .quarter)) regime)
-       (c .loop-place .inv .0),
-     λ _. answer .0)
+    let answer = yes-or-no (m .span cal) (m .above cal) (getD items k no-plant .regime) (c .args .quarter) (omega (arith, regime, r .regimes k)) _ (c .in-Continue-marks .ensures tt) in (
+      filled-more (mark m cal r (c .args .quarter)) false 8 k (c .loop-place .marks) (c .in-Continue-marks .field-0)
+          (omega (arith, items-count (r .plants) items (r .count) fits first, r .held))
+          (answer .1 ∙ ap (λ x. m .above cal x (c .args .quarter)) regime)
+          (c .loop-place .inv .0),
+      λ _. answer .0,
+    )
 
 pub returns : need.returns
 returns g c =
@@ -62,8 +63,8 @@ returns g c =
     let all : c .loop-place .place ≡ r .count = omega (arith, items-count (r .plants) items (r .count) fits (c .plants-plant-items .ensures)) in
     let quarter = c .args .quarter in
     let answered : answers m cal r quarter ≡ true = ⊎-elim
-        (λ some. cond-true (ltb 0 (r .count)) (ltb quarter (m .span cal)) true (lt-ltb 0 (r .count) some) ∙ lt-ltb quarter (m .span cal) (c .loop-place .inv .1 (omega (arith, all))))
-        (λ none. cond-false (ltb 0 (r .count)) (ltb quarter (m .span cal)) true (le-ltb 0 (r .count) none))
-        (cases-lt 0 (r .count)) in
+    (λ some. cond-true (ltb 0 (r .count)) (ltb quarter (m .span cal)) true (lt-ltb 0 (r .count) some) ∙ lt-ltb quarter (m .span cal) (c .loop-place .inv .1 (omega (arith, all))))
+    (λ none. cond-false (ltb 0 (r .count)) (ltb quarter (m .span cal)) true (le-ltb 0 (r .count) none))
+    (cases-lt 0 (r .count)) in
     let ok : List Bool → Result (List Bool) Fault = λ xs. Ok xs in
     ap ok (filled-all (mark m cal r quarter) false 8 (r .count) (c .loop-place .marks) (rw all at (c .loop-place .inv .0))) ∙ sym (cond-true (answers m cal r quarter) (ok (marks m cal r quarter)) _ answered)

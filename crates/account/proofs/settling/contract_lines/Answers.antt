@@ -21,11 +21,11 @@ loop-place-again c =
     let row = item-row (l .contracts) items (l .begun) fits (c .contracts-contract-items .ensures) k no-contract (c .loop-place-test .taken) in
     let line : Contract → ℕ → ContractLine = λ x n. record { number = x .number; draw = drawn (x .draw) n } in
     let part : getD (c .divide-shares .result) k 0 ≡ contract-share netted l k =
-        c .divide-shares .ensures .each k ∙ ap (λ cs. share netted (weights (λ (x : Contract). x .draw) cs) k) (c .places .ensures) in
+    c .divide-shares .ensures .each k ∙ ap (λ cs. share netted (weights (λ (x : Contract). x .draw) cs) k) (c .places .ensures) in
     filled-more (contract-row netted l) no-contract-line 4 k (c .loop-place .lines) _
-      (omega (arith, items-count (l .contracts) items (l .begun) fits (c .contracts-contract-items .ensures), l .few))
-      (ap (λ d. record { number = getD items k no-contract .number; draw = d }) (c .draw-figures .ensures) ∙ ap (λ x. line x (getD (c .divide-shares .result) k 0)) row ∙ ap (line (getD (l .contracts) k no-contract)) part)
-      (c .loop-place .inv)
+    (omega (arith, items-count (l .contracts) items (l .begun) fits (c .contracts-contract-items .ensures), l .few))
+    (ap (λ d. record { number = getD items k no-contract .number; draw = d }) (c .draw-figures .ensures) ∙ ap (λ x. line x (getD (c .divide-shares .result) k 0)) row ∙ ap (line (getD (l .contracts) k no-contract)) part)
+    (c .loop-place .inv)
 
 pub returns : need.returns
 returns c =

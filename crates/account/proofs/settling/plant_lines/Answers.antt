@@ -20,13 +20,13 @@ loop-place-again g c =
     let items = c .plants-plant-items .result .now in
     let plant = item-row (r .plants) items (r .count) fits (c .plants-plant-items .ensures) k no-plant (c .loop-place-test .taken) in
     let part : getD (c .divide-portions .result) k 0 ≡ portion m o r k =
-        c .divide-portions .ensures .each k
-        ∙ ap (λ b. share b (weights (λ (p : Plant). p .power) (c .places .result .now)) k) (c .base .ensures)
-        ∙ ap (λ ps. share (m .base o) (weights (λ (p : Plant). p .power) ps) k) (c .places .ensures) in
+    c .divide-portions .ensures .each k
+    ∙ ap (λ b. share b (weights (λ (p : Plant). p .power) (c .places .result .now)) k) (c .base .ensures)
+    ∙ ap (λ ps. share (m .base o) (weights (λ (p : Plant). p .power) ps) k) (c .places .ensures) in
     filled-more (plant-row m o r) no-plant-line 8 k (c .loop-place .lines) (c .plant-line .result)
-      (omega (arith, items-count (r .plants) items (r .count) fits (c .plants-plant-items .ensures), r .held))
-      (c .plant-line .ensures ∙ ap (λ p. line m o p k (getD (c .divide-portions .result) k 0)) plant ∙ ap (line m o (getD (r .plants) k no-plant) k) part)
-      (c .loop-place .inv)
+    (omega (arith, items-count (r .plants) items (r .count) fits (c .plants-plant-items .ensures), r .held))
+    (c .plant-line .ensures ∙ ap (λ p. line m o p k (getD (c .divide-portions .result) k 0)) plant ∙ ap (line m o (getD (r .plants) k no-plant) k) part)
+    (c .loop-place .inv)
 
 pub returns : need.returns
 returns g c =

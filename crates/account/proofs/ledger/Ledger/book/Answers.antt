@@ -13,9 +13,16 @@ add-contracts c =
 pub ghost-self : need.ghost-self
 ghost-self c =
     let l = c .args .self .now in
-    let there : l .begun - 1 < length (l .contracts) = omega (arith, l .places) in
-    (simp length-set (l .places),
-     (omega arith,
-      (omega arith,
-       (λ i h. empty-past l (l .begun - 1) _ i (omega arith) (omega arith),
-        (omega (arith, booked-draw l (l .begun - 1) there (c .args .draw), l .booked), tt)))))
+    let there : l .begun - 1 < length (l .contracts) = omega (arith, l .places) in (
+      simp length-set (l .places),
+      (
+        omega arith,
+        (
+          omega arith,
+          (
+            λ i h. empty-past l (l .begun - 1) _ i (omega arith) (omega arith),
+            (omega (arith, booked-draw l (l .begun - 1) there (c .args .draw), l .booked), tt),
+          ),
+        ),
+      ),
+    )

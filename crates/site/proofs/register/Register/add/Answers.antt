@@ -16,11 +16,22 @@ ghost-self c =
     let room : g .count < 8 = omega arith in
     let power : p .power ≡ c .args .entry .power = ap (λ (x : Plant). x .power) (s .is) in
     let plug = one-more g p room (power-of PlugIn) refl in
-    let all = one-more g p room (λ x. x .power) refl in
-    (simp length-set (g .places),
-     (omega arith,
-      (λ k h. everywhere g p room (λ x. x ≡ no-plant) k (λ e. absurd (omega (arith, e))) (λ _. g .empty k (omega arith)),
-       (λ k h. everywhere g p room (λ x. 0 < x .power) k (λ _. omega (arith, power)) (λ ne. g .powered k (omega (arith, ne))),
-        (λ k. everywhere g p room (λ x. x .regime ≤ 7) k (λ _. s .regime) (λ _. g .regimes k),
-         (omega (arith, plug),
-          (omega (arith, all), tt)))))))
+    let all = one-more g p room (λ x. x .power) refl in (
+      simp length-set (g .places),
+      (
+        omega arith,
+        (
+          λ k h. everywhere g p room (λ x. x ≡ no-plant) k (λ e. absurd (omega (arith, e))) (λ _. g .empty k (omega arith)),
+          (
+            λ k h. everywhere g p room (λ x. 0 < x .power) k (λ _. omega (arith, power)) (λ ne. g .powered k (omega (arith, ne))),
+            (
+              λ k. everywhere g p room (λ x. x .regime ≤ 7) k (λ _. s .regime) (λ _. g .regimes k),
+              (
+                omega (arith, plug),
+                (omega (arith, all), tt),
+              ),
+            ),
+          ),
+        ),
+      ),
+    )

@@ -53,6 +53,6 @@ returns g c = λ plain ok.
     let first : List ℕ = (year-line s ++ as-line (draw-text (s .totals .draw))) ++ as-line (feed-in-text (s .totals .«feed_in»)) in
     put-is took _ _ _ _
     (ap (λ xs. (first ++ joined plant-line xs) ++ joined contract-line (take (c .loop-contract .contract-index) (c .contract-lines-contract-items .result .now))) ps
-      ∙ ap (λ xs. (first ++ joined plant-line (plant-lines s)) ++ joined contract-line xs) cs
-      ∙ in-turn (year-line s) (as-line (draw-text (s .totals .draw))) (as-line (feed-in-text (s .totals .«feed_in»))) (joined plant-line (plant-lines s)) (joined contract-line (contract-lines s)))
+    ∙ ap (λ xs. (first ++ joined plant-line (plant-lines s)) ++ joined contract-line xs) cs
+    ∙ in-turn (year-line s) (as-line (draw-text (s .totals .draw))) (as-line (feed-in-text (s .totals .«feed_in»))) (joined plant-line (plant-lines s)) (joined contract-line (contract-lines s)))
     (put-more took _ _ _ _ _ (put-more took _ _ _ _ _ (put-more took _ _ _ _ _ (put-more took _ _ _ _ _ year draw) feed-in) plants) contracts)
