@@ -2,7 +2,6 @@
 use calendar::published_table::PublishedTable;
 use fault::FaultDisplay;
 use settlement::settlement::Settlement;
-use settlement::stop::Stop;
 use std::error::AnyError;
 use std::fs;
 use std::io;
@@ -22,8 +21,7 @@ fn report(
     }
     match settlement.finish() {
         Ok(_) => println!(rt, "{what} {at}: settled"),
-        Err(Stop::Refused(fault)) => println!(rt, "{what} {at}: {fault}"),
-        Err(Stop::NotBuilt) => println!(rt, "{what} {at}: not built"),
+        Err(fault) => println!(rt, "{what} {at}: {fault}"),
     }
 }
 

@@ -1,2 +1,4 @@
 pub mod Allowed
+pub mod Green
+pub mod Led
 pub mod Marked

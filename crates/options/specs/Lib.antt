@@ -1,2 +1,4 @@
 pub mod Quarters
 pub mod Flat
+pub mod Delimitation
+pub mod Histories

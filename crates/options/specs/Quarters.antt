@@ -1,10 +1,10 @@
 -- What every option holds of the quarters it took. Assumes nothing.
 use mathlib.Core.Path.{_≡_}
-use mathlib.Core.Bool.{Bool, true, false, cond, _&&_}
+use mathlib.Core.Bool.{Bool, false, cond, _&&_}
 use mathlib.Core.List.{List, [], _∷_}
 use Prim.Native.Nat.{ℕ, _+_, _<_}
 use lib.Dec.{leb, ltb}
-use lib.ListN.{getD}
+use lib.ListN.{getD, length}
 use Rattle.std.specs.declared.result.Result.the-variants.{Ok, Err}
 use Rattle.fault.specs.declared.cause.Cause.the-variants.{TakenAmountTooLarge, OptionFull}
 use Rattle.fault.specs.Questions.{Answer, asked}
@@ -42,9 +42,17 @@ pub record Added (s : Sums) (a : Amounts) (marks : List Bool) (t : Sums) : Type 
   pub feed-in : t .feed-in ≡ s .feed-in + a .«feed_in»
   pub marked : (p : ℕ) → p < 8 → t .marked p ≡ s .marked p + cond (getD marks p false) (a .«feed_in») 0
 
--- what an option answers that is to take a quarter
+-- the marked sums t are s with an amount added at each marked place
+pub record Marks (s : List ℕ) (marks : List Bool) (amount : ℕ) (t : List ℕ) : Type 0 where
+  pub places : length t ≡ 8
+  pub each : (p : ℕ) → p < 8 → getD t p 0 ≡ getD s p 0 + cond (getD marks p false) amount 0
+
+-- what an option answers that took so many quarters and is to take one more
+abbrev pub taking-after : ℕ → Amounts → Answer
+taking-after quarters a = asked quarters ((allowed a, TakenAmountTooLarge) ∷ (ltb quarters 35136, OptionFull) ∷ []) (Ok tt)
+
 abbrev pub taking : Sums → Amounts → Answer
-taking s a = asked (s .quarters) ((allowed a, TakenAmountTooLarge) ∷ (ltb (s .quarters) 35136, OptionFull) ∷ []) (Ok tt)
+taking s a = taking-after (s .quarters) a
 
 -- the answer r, with what holds after it: the quarter is taken, or nothing has changed
 abbrev pub Took : Sums → Amounts → Answer → Type 0 → Type 0 → Type 0

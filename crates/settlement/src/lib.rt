@@ -3,4 +3,3 @@ mod account_of_file;
 mod chosen;
 mod content;
 pub mod settlement;
-pub mod stop;

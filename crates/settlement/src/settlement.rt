@@ -2,10 +2,9 @@
 ghost use mathlib.Core.Path.{_≡_};
 ghost use Rattle.settlement.specs.Progress.{open-still, Steps};
 use crate::chosen::Chosen;
-use crate::stop::Stop;
-use crate::stop::StopFromFault;
 use calendar::published_table::PublishedTable;
 use calendar::published_table::PublishedTableCalendar;
+use fault::Fault;
 use fault::cause::Cause;
 use statement::figures::Statement;
 use std::mem::replace;
@@ -18,7 +17,7 @@ use tagged_file::window::Window;
 enum Outcome {
     Open,
     Settled(Statement),
-    Stopped(Stop),
+    Refused(Fault),
 }
 
 #[derive(Drop)]
@@ -62,27 +61,27 @@ impl<'t> Settlement<'t> {
     }
 
     // The file has no more: what it comes to.
-    pub fn finish(mut self) -> Result<Statement, Stop> {
+    pub fn finish(mut self) -> Result<Statement, Fault> {
         self.window.finish();
         self.advance();
         match self.outcome {
             Outcome::Settled(statement) => Ok(statement),
-            Outcome::Stopped(stop) => Err(stop),
-            Outcome::Open => Err(Stop::Refused(Cause::HeaderCutOff.at(self.window.offset()))),
+            Outcome::Refused(fault) => Err(fault),
+            Outcome::Open => Err(Cause::HeaderCutOff.at(self.window.offset())),
         }
     }
 
     // Settles the records that are held whole.
     fn advance(&mut self) {
         while self.is_open() && self.window.is_ready() {
-            if let Err(stop) = self.step() {
-                self.outcome = Outcome::Stopped(stop);
+            if let Err(fault) = self.step() {
+                self.outcome = Outcome::Refused(fault);
             }
         }
     }
 
     // Settles the record at the front of the window, and passes it.
-    fn step(&mut self) -> Result<(), Stop>
+    fn step(&mut self) -> Result<(), Fault>
         ensures { λ r. ⌜ Steps (now (self .entry)) r (now (self .exit)) ⌝ }
     {
         let offset = self.window.offset();
@@ -97,16 +96,16 @@ impl<'t> Settlement<'t> {
                 self.window.pass(size);
                 Ok(())
             }
-            Err(stop) => Err(stop.at(offset)),
+            Err(fault) => Err(fault.cause.at(offset)),
         }
     }
 
     // The end record: nothing may follow it, and the account gives its statement.
-    fn end(&mut self, offset: u64, size: usize) -> Result<(), Stop>
+    fn end(&mut self, offset: u64, size: usize) -> Result<(), Fault>
         ensures { λ r. ⌜ Steps (now (self .entry)) r (now (self .exit)) ⌝ }
     {
         if self.window.held().len() > size {
-            return Err(Stop::Refused(Cause::BytesAfterEnd.at(offset.saturating_add(size as u64))));
+            return Err(Cause::BytesAfterEnd.at(offset.saturating_add(size as u64)));
         }
         let mut statement = Statement::blank();
         match replace(&mut self.chosen, Chosen::None).settle(&mut statement) {
@@ -114,7 +113,7 @@ impl<'t> Settlement<'t> {
                 self.outcome = Outcome::Settled(statement);
                 Ok(())
             }
-            Err(stop) => Err(stop.at(offset)),
+            Err(fault) => Err(fault.cause.at(offset)),
         }
     }
 }

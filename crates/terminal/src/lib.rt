@@ -1,9 +1,9 @@
 // What the program settle does: it reads a tagged file from standard input and the published table from calendar.bin in the
 // current folder, and prints the statement, or the one line of a refusal.
 use calendar::published_table::PublishedTable;
+use fault::Fault;
 use fault::FaultDisplay;
 use settlement::settlement::Settlement;
-use settlement::stop::Stop;
 use statement::figures::Statement;
 use statement::text::StatementDisplay;
 use std::error::AnyError;
@@ -15,7 +15,7 @@ use tagged_file::window::PIECE;
 const TABLE: &str = "calendar.bin";
 
 // The file comes in piece by piece, so that no more than 65,536 bytes of it are held.
-fn settle_input(rt: &LibcRuntime, table: &[u8]) -> io::Result<Result<Statement, Stop>> {
+fn settle_input(rt: &LibcRuntime, table: &[u8]) -> io::Result<Result<Statement, Fault>> {
     let mut settlement = Settlement::new(PublishedTable::new(table));
     let mut piece = vec![in rt.alloc(); 0u8; PIECE]?;
     let mut input = rt.stdin();
@@ -45,13 +45,9 @@ pub fn settle(rt: LibcRuntime) -> Result<(), AnyError> {
             print!(rt, "{statement}")?;
             Ok(())
         }
-        Ok(Err(Stop::Refused(fault))) => {
+        Ok(Err(fault)) => {
             println!(rt, "{fault}")?;
             Err("refused".into())
-        }
-        Ok(Err(Stop::NotBuilt)) => {
-            eprintln!(rt, "settle: the delimitation option is not built yet")?;
-            Err("not built".into())
         }
         Err(error) => {
             eprintln!(rt, "settle: standard input: {error}")?;

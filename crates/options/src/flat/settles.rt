@@ -1,16 +1,15 @@
 // The flat option: how it settles. Feed-in up to a cap is divided over the plants, feed-in above it may be netted.
-ghost use mathlib.Core.Path.{_≡_};
-ghost use Prim.Native.Nat.{ℕ, _+_, _-_, _*_, _≤_, min};
+ghost use Prim.Native.Nat.{_-_, min};
 ghost use lib.ListN.{getD};
-ghost use Rattle.options.specs.Flat.{sumsOf, cap, Marks};
+ghost use Rattle.options.specs.Flat.{sums-of, cap};
 ghost use Rattle.options.specs.Quarters.{Added};
 use super::FlatOption;
+use crate::admission::admit;
 use crate::amounts::Amounts;
-use crate::settlement_option::LONGEST_YEAR;
+use crate::marks::add_marked;
 use crate::settlement_option::PLACES;
 use crate::settlement_option::SettlementOption;
 use fault::Fault;
-use fault::cause::Cause;
 
 // The most ordinary power of a flat site, in W.
 const LIMIT: u32 = 30_000;
@@ -18,27 +17,12 @@ const LIMIT: u32 = 30_000;
 // The cap for each watt of site power, plug-in plants counted, in Wh.
 const CAP_PER_WATT: u64 = 500;
 
-// The marked sums with a quarter's feed-in added at each marked place.
-fn add_marked(sums: [u32; PLACES], marks: [bool; PLACES], feed_in: u32, most: u32) -> [u32; PLACES]
-    requires { ⌜ most + «feed_in» ≤ 1756800000 ⌝ }
-    requires { ⌜ ((p : ℕ) → getD sums p 0 ≤ most) ⌝ }
-    ensures { λ r. ⌜ Marks sums marks «feed_in» r ⌝ }
-{
-    let mut next = sums;
-    for place in 0..PLACES {
-        if marks[place] {
-            next[place] += feed_in;
-        }
-    }
-    next
-}
-
 pub impl SettlementOption for FlatOption as FlatSettles {
     ghost number = { 0 };
 
     ghost limit = { 30000 };
 
-    ghost sums = { sumsOf };
+    ghost sums = { sums-of };
 
     ghost base = { λ o. min (o .«feed_in») (cap o) };
 
@@ -50,7 +34,7 @@ pub impl SettlementOption for FlatOption as FlatSettles {
 
     ghost lower = { λ o _. o .«feed_in» };
 
-    ghost takes = { λ o a marks p. Added (sumsOf o) a marks (sumsOf p) };
+    ghost takes = { λ o a marks p. Added (sums-of o) a marks (sums-of p) };
 
     fn number() -> u8 {
         0
@@ -71,18 +55,13 @@ pub impl SettlementOption for FlatOption as FlatSettles {
     }
 
     fn take(&mut self, amounts: Amounts, marks: [bool; PLACES]) -> Result<(), Fault> {
-        if !amounts.are_allowed() {
-            return Err(Cause::TakenAmountTooLarge.at(self.quarters as u64));
-        }
-        if self.quarters >= LONGEST_YEAR {
-            return Err(Cause::OptionFull.at(self.quarters as u64));
-        }
+        admit(self.quarters, &amounts)?;
         *self = FlatOption {
             site_power: self.site_power,
             quarters: self.quarters + 1,
             draw: self.draw + amounts.draw,
             feed_in: self.feed_in + amounts.feed_in,
-            marked: add_marked(self.marked, marks, amounts.feed_in, self.feed_in),
+            marked: add_marked(self.marked, marks, amounts.feed_in),
         };
         Ok(())
     }
