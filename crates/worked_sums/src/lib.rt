@@ -1,0 +1,6 @@
+// The worked sums of the rules, proved about the definitions that the contracts cite.
+ghost use Rattle.worked_sums.specs.Sums.{Worked-sums};
+
+pub fn worked_sums()
+    ensures { λ _. ⌜ Worked-sums ⌝ }
+{}
