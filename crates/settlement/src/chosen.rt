@@ -40,7 +40,11 @@ impl Chosen {
     }
 
     // The account after a record other than the end.
-    pub(crate) fn put<C: ValueCalendar>(self, calendar: &C, record: &Record) -> Result<Chosen, Fault> {
+    pub(crate) fn put<C: ValueCalendar>(
+        self,
+        calendar: &C,
+        record: &Record,
+    ) -> Result<Chosen, Fault> {
         match (self, record) {
             (_, Record::Year(content)) => Chosen::of_year(content),
             (Chosen::None, record) => before_the_year(record),

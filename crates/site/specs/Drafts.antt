@@ -41,7 +41,7 @@ AddsPlant d p r e = (r ≡ adding (d .register) p) × elim r [ Ok _ ↦ PlantAdd
 -- whether a year with these plants can be settled under an option with this limit: a year is set, a plant is supported, and ordinary power is within the limit
 abbrev pub fit-for : ℕ → Option ℕ → List Plant → Answer
 fit-for limit year plants = asked 0 (
-      (isSome year, YearNotSet)
+    (isSome year, YearNotSet)
     ∷ (some-supported plants, NoSupportedPlant)
     ∷ (leb (kind-power Ordinary plants) limit, OrdinaryPowerExceeded)
     ∷ []) (Ok tt)

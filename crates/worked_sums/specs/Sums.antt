@@ -44,7 +44,7 @@ pub record Worked-sums : Type 0 where
   pub netting : (o : FlatOption) → Flat-year 8000000 4000000 o → totals flat o .draw ≡ record { draw = 4000000; netted = 3000000; levied = 1000000 }
   -- three quarters of the feed-in were marked, so three quarters of the base are valued, and not the smaller of marked and base
   pub valuing : (o : FlatOption) → Flat-year 8000000 0 o → flat .sums o .marked 0 ≡ 6000000
-    → (valued (flat .base o) (flat .upper o 0) (flat .lower o 0) ≡ 3750000) × (min (flat .sums o .marked 0) (flat .base o) ≡ 5000000)
+      → (valued (flat .base o) (flat .upper o 0) (flat .lower o 0) ≡ 3750000) × (min (flat .sums o .marked 0) (flat .base o) ≡ 5000000)
   -- zero-valued quarters do not lessen what may be netted
   pub unmarked : (o : FlatOption) → Flat-year 8000000 0 o → flat .sums o .marked 0 ≡ 0 → (valued (flat .base o) (flat .upper o 0) (flat .lower o 0) ≡ 0) × (flat .nettable o ≡ 3000000)
   -- plug-in plants count in the cap, and not in the limit

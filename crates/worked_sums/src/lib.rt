@@ -1,5 +1,6 @@
 // The worked sums of the rules, proved about the definitions that the contracts cite.
 ghost use Rattle.worked_sums.specs.Sums.{Worked-sums};
+
 pub mod calendar_of_run;
 pub mod run;
 
