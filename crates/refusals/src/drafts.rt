@@ -3,6 +3,8 @@
 mod tests {
     use crate::expected::refused;
     use fault::FaultDebug;
+    use options::delimitation::DelimitationOption;
+    use options::delimitation::settles::DelimitationSettles;
     use options::flat::FlatOption;
     use options::flat::settles::FlatSettles;
     use site::draft::Draft;
@@ -114,12 +116,23 @@ mod tests {
         draft.set_year(2026)?;
         refused(draft.check_fitness::<FlatOption>(), 2, 18, 0)?;
         draft.add_plant(PlantEntry {
+            power: 30_001,
             marketing: 1,
             ..PLANT
         })?;
         refused(draft.check_fitness::<FlatOption>(), 2, 18, 0)?;
+        draft.add_plant(PLANT)?;
+        refused(draft.check_fitness::<FlatOption>(), 2, 19, 0)?;
+        draft.check_fitness::<DelimitationOption>()?;
+        check_eq(draft.register().count(), 2)
+    }
+
+    #[test]
+    fn plug_in_power_beside_the_limit() -> Result<(), Fail> {
+        let mut draft = Draft::new();
+        draft.set_year(2026)?;
         draft.add_plant(PlantEntry {
-            power: 29_000,
+            power: 30_000,
             ..PLANT
         })?;
         draft.check_fitness::<FlatOption>()?;
@@ -131,6 +144,6 @@ mod tests {
         draft.check_fitness::<FlatOption>()?;
         draft.add_plant(PlantEntry { power: 1, ..PLANT })?;
         refused(draft.check_fitness::<FlatOption>(), 2, 19, 0)?;
-        check_eq(draft.register().count(), 4)
+        check_eq(draft.register().count(), 3)
     }
 }
