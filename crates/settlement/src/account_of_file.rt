@@ -1,12 +1,15 @@
 // The account as far as its file has come, under one option.
+ghost use Rattle.settlement.specs.Putting.{OpensIn, AddsIn, BeginsIn, BeginsOpened, EntersIn, Puts};
 use crate::content::amounts_offered;
 use crate::content::plant_offered;
 use account::year::Opened;
 use calendar::value_calendar::ValueCalendar;
 use fault::Fault;
 use fault::cause::Cause;
+use options::amounts::Amounts;
 use options::settlement_option::SettlementOption;
 use site::draft::Draft;
+use site::plant::PlantEntry;
 use statement::figures::Statement;
 use std::mem::replace;
 use tagged_file::number::number16;
@@ -28,7 +31,9 @@ impl<O: SettlementOption + Drop> AccountOfFile<O> {
     }
 
     // At the first contract the draft's fitness is checked and the year is opened.
-    fn open(&mut self) -> Result<(), Fault> {
+    fn open(&mut self) -> Result<(), Fault>
+        ensures { λ r. ⌜ OpensIn O·SettlementOption (now (self .entry)) r (now (self .exit)) ⌝ }
+    {
         if let AccountOfFile::Draft(draft) = self {
             draft.check_fitness::<O>()?;
             let draft = replace(draft, Draft::new());
@@ -37,28 +42,63 @@ impl<O: SettlementOption + Drop> AccountOfFile<O> {
         Ok(())
     }
 
+    fn add_plant(&mut self, entry: PlantEntry) -> Result<(), Fault>
+        ensures { λ r. ⌜ AddsIn O·SettlementOption (now (self .entry)) entry r (now (self .exit)) ⌝ }
+    {
+        match self {
+            AccountOfFile::Draft(draft) => draft.add_plant(entry),
+            AccountOfFile::Opened(_) => Err(Cause::OutOfOrder.at(0)),
+        }
+    }
+
+    fn begin_contract(&mut self, number: u32) -> Result<(), Fault>
+        ensures { λ r. ⌜ BeginsIn O·SettlementOption (now (self .entry)) number r (now (self .exit)) ⌝ }
+    {
+        self.open()?;
+        self.begin_opened(number)
+    }
+
+    fn begin_opened(&mut self, number: u32) -> Result<(), Fault>
+        ensures { λ r. ⌜ BeginsOpened O·SettlementOption (now (self .entry)) number r (now (self .exit)) ⌝ }
+    {
+        match self {
+            AccountOfFile::Opened(year) => year.begin_contract(number),
+            AccountOfFile::Draft(_) => Err(Cause::OutOfOrder.at(0)),
+        }
+    }
+
+    fn enter_quarter<C: ValueCalendar>(
+        &mut self,
+        calendar: &C,
+        quarter: u32,
+        amounts: Amounts,
+    ) -> Result<(), Fault>
+        ensures { λ r. ⌜ EntersIn O·SettlementOption C·ValueCalendar (now (calendar .entry)) (now (self .entry)) quarter amounts r (now (self .exit)) ⌝ }
+    {
+        match self {
+            AccountOfFile::Opened(year) => year.enter_quarter(calendar, quarter, amounts),
+            AccountOfFile::Draft(_) => Err(Cause::OutOfOrder.at(0)),
+        }
+    }
+
     // Puts a record to the account. A record that the account's state has no call for is out of order.
     pub(crate) fn put<C: ValueCalendar>(
         &mut self,
         calendar: &C,
         record: &Record,
-    ) -> Result<(), Fault> {
-        if let Record::Contract(_) = record {
-            self.open()?;
-        }
-        match (self, record) {
-            (AccountOfFile::Draft(draft), Record::Plant(content)) => draft.add_plant(plant_offered(
-                content,
-            )),
-            (AccountOfFile::Opened(year), Record::Contract(content)) =>
-                year.begin_contract(number32(content, 0)),
-            (AccountOfFile::Opened(year), Record::Quarter(content)) => year.enter_quarter(
+    ) -> Result<(), Fault>
+        ensures { λ r. ⌜ Puts O·SettlementOption C·ValueCalendar (now (calendar .entry)) (now (self .entry)) (now («record» .entry)) r (now (self .exit)) ⌝ }
+    {
+        match *record {
+            Record::Plant(content) => self.add_plant(plant_offered(content)),
+            Record::Contract(content) => self.begin_contract(number32(content, 0)),
+            Record::Quarter(content) => self.enter_quarter(
                 calendar,
                 number16(content, 0) as u32,
                 amounts_offered(content),
             ),
-            (_, Record::Remark(_)) => Ok(()),
-            _ => Err(Cause::OutOfOrder.at(0)),
+            Record::Remark(_) => Ok(()),
+            Record::Year(_) | Record::End => Err(Cause::OutOfOrder.at(0)),
         }
     }
 
