@@ -3,6 +3,9 @@ use mathlib.Core.Path.{_≡_}
 use mathlib.Core.List.{List}
 use Prim.Native.Nat.{ℕ}
 use Rattle.std.specs.Results.{Cases}
+use Rattle.std.specs.Orderings.{When}
+use Rattle.std.specs.declared.option.Option.the-variants.{Some}
+use Rattle.std.specs.declared.result.Result.{Result}
 use Rattle.std.specs.declared.result.Result.the-variants.{Ok, Err}
 use Rattle.fault.specs.declared.Fault.{Fault}
 use Rattle.fault.specs.declared.cause.Cause.the-variants.{OutOfOrder}
@@ -13,10 +16,14 @@ use Rattle.options.specs.declared.settlement_option.SettlementOption.{Ghosts as
 use Rattle.site.specs.declared.draft.Draft.{Draft}
 use Rattle.site.specs.declared.plant.PlantEntry.{PlantEntry}
 use Rattle.site.specs.Drafts.{AddsPlant, setting, fitness}
+use Rattle.site.specs.Registers.{Empty}
 use Rattle.account.specs.declared.year.Opened.{Opened}
-use Rattle.account.specs.Calls.{Opens, Begins, Enters}
-use Rattle.tagged_file.specs.declared.record.Record.{Record}
-use Rattle.tagged_file.specs.declared.record.Record.the-variants as records
+use Rattle.account.specs.Calls.{Opens, Begins, Enters, complete}
+use Rattle.account.specs.Statements.{settled, interim, finally, Fills}
+use Rattle.statement.specs.declared.figures.Standing.the-variants.{Interim, Final}
+use Rattle.statement.specs.declared.figures.Statement.{Statement}
+use Rattle.tagged_file.specs.declared.record.Tag.{Tag}
+use Rattle.tagged_file.specs.declared.record.Tag.the-variants as tags
 use Rattle.tagged_file.specs.Numbers.{two-at, four-at}
 use Rattle.settlement.specs.Offers.{plant-offered, amounts-offered}
 use Rattle.settlement.specs.declared.account_of_file.AccountOfFile.{AccountOfFile}
@@ -58,11 +65,23 @@ module _ {O : Type 0} (meaning : Meaning O) where
     EntersIn (states.Opened a) q amounts r (states.Draft e) = ⊥
     EntersIn (states.Draft d) q amounts r t = NoCall (states.Draft d) r t
 
-    -- each record but year and end is put to the call that it names; a remark to none
-    abbrev pub Puts : AccountOfFile O → Record → Answer → AccountOfFile O → Type 0
-    Puts s (records.Year b) r t = NoCall s r t
-    Puts s (records.Plant b) r t = AddsIn s (plant-offered (b .now)) r t
-    Puts s (records.Contract b) r t = BeginsIn s (four-at (b .now) 0) r t
-    Puts s (records.Quarter b) r t = EntersIn s (two-at (b .now) 0) (amounts-offered (b .now)) r t
-    Puts s (records.Remark b) r t = (r ≡ Ok tt) × (s ≡ t)
-    Puts s records.End r t = NoCall s r t
+    -- a record is put to the call that its tag names, a remark to none; year and end are not for the account
+    abbrev pub Puts : AccountOfFile O → Tag → List ℕ → Answer → AccountOfFile O → Type 0
+    Puts s tags.Year b r t = NoCall s r t
+    Puts s tags.Plant b r t = AddsIn s (plant-offered b) r t
+    Puts s tags.Contract b r t = BeginsIn s (four-at b 0) r t
+    Puts s tags.Quarter b r t = EntersIn s (two-at b 0) (amounts-offered b) r t
+    Puts s tags.Remark b r t = (r ≡ Ok tt) × (s ≡ t)
+    Puts s tags.End b r t = NoCall s r t
+
+  -- an account begins as an empty draft with its year
+  abbrev pub BeginsYear : ℕ → Result (AccountOfFile O) Fault → Type 0
+  BeginsYear year (Ok (states.Draft d)) = (setting year ≡ Ok tt) × (d .year ≡ Some year) × Empty (d .register)
+  BeginsYear year (Ok (states.Opened a)) = ⊥
+  BeginsYear year (Err f) = setting year ≡ Err f
+
+  -- the final statement of a complete year, otherwise the interim one; a draft has none
+  abbrev pub SettlesIn : AccountOfFile O → Answer → Statement → Statement → Type 0
+  SettlesIn (states.Opened a) r before after =
+      When (complete a) (Fills r (finally meaning a) (settled meaning a Final) before after) (Fills r (interim meaning a) (settled meaning a Interim) before after)
+  SettlesIn (states.Draft d) r before after = (r ≡ Err (fault OutOfOrder 0)) × (before ≡ after)

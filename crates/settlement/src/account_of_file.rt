@@ -1,5 +1,6 @@
 // The account as far as its file has come, under one option.
-ghost use Rattle.settlement.specs.Putting.{OpensIn, AddsIn, BeginsIn, BeginsOpened, EntersIn, Puts};
+ghost use Rattle.settlement.specs.Putting.{OpensIn, AddsIn, BeginsIn, BeginsOpened, EntersIn, Puts, BeginsYear, SettlesIn};
+ghost use Rattle.tagged_file.specs.Format.{tag-in, content-in};
 use crate::content::amounts_offered;
 use crate::content::plant_offered;
 use account::year::Opened;
@@ -24,7 +25,9 @@ pub(crate) enum AccountOfFile<O> {
 
 impl<O: SettlementOption + Drop> AccountOfFile<O> {
     // The account that a year record begins.
-    pub(crate) fn of_year(year: u16) -> Result<AccountOfFile<O>, Fault> {
+    pub(crate) fn of_year(year: u16) -> Result<AccountOfFile<O>, Fault>
+        ensures { λ r. ⌜ BeginsYear O·SettlementOption year r ⌝ }
+    {
         let mut draft = Draft::new();
         draft.set_year(year)?;
         Ok(AccountOfFile::Draft(draft))
@@ -87,7 +90,7 @@ impl<O: SettlementOption + Drop> AccountOfFile<O> {
         calendar: &C,
         record: &Record,
     ) -> Result<(), Fault>
-        ensures { λ r. ⌜ Puts O·SettlementOption C·ValueCalendar (now (calendar .entry)) (now (self .entry)) (now («record» .entry)) r (now (self .exit)) ⌝ }
+        ensures { λ r. ⌜ Puts O·SettlementOption C·ValueCalendar (now (calendar .entry)) (now (self .entry)) (tag-in (now («record» .entry))) (content-in (now («record» .entry))) r (now (self .exit)) ⌝ }
     {
         match *record {
             Record::Plant(content) => self.add_plant(plant_offered(content)),
@@ -103,7 +106,9 @@ impl<O: SettlementOption + Drop> AccountOfFile<O> {
     }
 
     // The final statement of a complete year, otherwise the interim one.
-    pub(crate) fn settle(self, statement: &mut Statement) -> Result<(), Fault> {
+    pub(crate) fn settle(self, statement: &mut Statement) -> Result<(), Fault>
+        ensures { λ r. ⌜ SettlesIn O·SettlementOption self r (now (statement .entry)) (now (statement .exit)) ⌝ }
+    {
         match self {
             AccountOfFile::Opened(year) => {
                 if year.is_complete() {
