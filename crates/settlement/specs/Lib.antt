@@ -1,3 +1,4 @@
 pub mod Offers
 pub mod Progress
 pub mod Putting
+pub mod Choosing

@@ -1,4 +1,6 @@
 // The account under the option that the file's year record names.
+ghost use Rattle.settlement.specs.Choosing.{NamesOption, BeforeYear, ChosenPuts, ChosenSettles};
+ghost use Rattle.tagged_file.specs.Format.{tag-in, content-in};
 use crate::account_of_file::AccountOfFile;
 use calendar::value_calendar::ValueCalendar;
 use fault::Fault;
@@ -21,7 +23,9 @@ pub(crate) enum Chosen {
 }
 
 // Only remarks stand before the year.
-fn before_the_year(record: &Record) -> Result<Chosen, Fault> {
+fn before_the_year(record: &Record) -> Result<Chosen, Fault>
+    ensures { λ r. ⌜ BeforeYear (tag-in (now («record» .entry))) r ⌝ }
+{
     match record {
         Record::Remark(_) => Ok(Chosen::None),
         _ => Err(Cause::OutOfOrder.at(0)),
@@ -30,7 +34,9 @@ fn before_the_year(record: &Record) -> Result<Chosen, Fault> {
 
 impl Chosen {
     // The option byte is asked before the year.
-    fn of_year(content: &[u8]) -> Result<Chosen, Fault> {
+    fn of_year(content: &[u8]) -> Result<Chosen, Fault>
+        ensures { λ r. ⌜ NamesOption (now (content .entry)) r ⌝ }
+    {
         let year = number16(content, 0);
         match byte(content, 2) {
             0 => Ok(Chosen::Flat(AccountOfFile::of_year(year)?)),
@@ -44,7 +50,9 @@ impl Chosen {
         self,
         calendar: &C,
         record: &Record,
-    ) -> Result<Chosen, Fault> {
+    ) -> Result<Chosen, Fault>
+        ensures { λ r. ⌜ ChosenPuts C·ValueCalendar (now (calendar .entry)) self (tag-in (now («record» .entry))) (content-in (now («record» .entry))) r ⌝ }
+    {
         match (self, record) {
             (_, Record::Year(content)) => Chosen::of_year(content),
             (Chosen::None, record) => before_the_year(record),
@@ -60,7 +68,9 @@ impl Chosen {
     }
 
     // The statement at the end of the file.
-    pub(crate) fn settle(self, statement: &mut Statement) -> Result<(), Fault> {
+    pub(crate) fn settle(self, statement: &mut Statement) -> Result<(), Fault>
+        ensures { λ r. ⌜ ChosenSettles self r (now (statement .entry)) (now (statement .exit)) ⌝ }
+    {
         match self {
             Chosen::None => Err(Cause::OutOfOrder.at(0)),
             Chosen::Flat(account) => account.settle(statement),
