@@ -1,6 +1,7 @@
 // A file being settled: pieces of it come in, and each record is put to the account once it is held whole.
 ghost use mathlib.Core.Path.{_≡_};
 ghost use Rattle.settlement.specs.Progress.{open-still, Steps};
+ghost use Rattle.settlement.specs.Settling.{StepsOn, Ends};
 use crate::chosen::Chosen;
 use calendar::published_table::PublishedTable;
 use calendar::published_table::PublishedTableCalendar;
@@ -82,7 +83,8 @@ impl<'t> Settlement<'t> {
 
     // Settles the record at the front of the window, and passes it.
     fn step(&mut self) -> Result<(), Fault>
-        ensures { λ r. ⌜ Steps (now (self .entry)) r (now (self .exit)) ⌝ }
+        ensures less { λ r. ⌜ Steps (now (self .entry)) r (now (self .exit)) ⌝ }
+        ensures onward { λ r. ⌜ StepsOn (now (self .entry)) r (now (self .exit)) ⌝ }
     {
         let offset = self.window.offset();
         let (record, size) = self.window.record()?;
@@ -102,7 +104,8 @@ impl<'t> Settlement<'t> {
 
     // The end record: nothing may follow it, and the account gives its statement.
     fn end(&mut self, offset: u64, size: usize) -> Result<(), Fault>
-        ensures { λ r. ⌜ Steps (now (self .entry)) r (now (self .exit)) ⌝ }
+        ensures less { λ r. ⌜ Steps (now (self .entry)) r (now (self .exit)) ⌝ }
+        ensures ends { λ r. ⌜ Ends (now (self .entry)) offset size r (now (self .exit)) ⌝ }
     {
         if self.window.held().len() > size {
             return Err(Cause::BytesAfterEnd.at(offset.saturating_add(size as u64)));
