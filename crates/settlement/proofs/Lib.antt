@@ -1,3 +1,4 @@
+pub mod Keeping
 pub mod Records
 pub mod Statements
 pub mod Stepping

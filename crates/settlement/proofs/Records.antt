@@ -15,7 +15,7 @@ use Rattle.settlement.specs.Choosing.{PutsOn, ChosenPuts}
 
 module _ {C : Type 0} (calendar : Calendar C) (c : C) where
   after-year : (s : Chosen) (x : Record) (r : Result Chosen Fault) → ((y : RefT (List ℕ)) → x ≡ records.Year y → ⊥)
-    → PutsOn calendar c s (tag-in x) (content-in x) r → ChosenPuts calendar c s (tag-in x) (content-in x) r
+      → PutsOn calendar c s (tag-in x) (content-in x) r → ChosenPuts calendar c s (tag-in x) (content-in x) r
   after-year s (records.Year y) r no-year puts = absurd (no-year y refl)
   after-year s (records.Plant y) r no-year puts = puts
   after-year s (records.Contract y) r no-year puts = puts
@@ -25,7 +25,7 @@ module _ {C : Type 0} (calendar : Calendar C) (c : C) where
 
   -- the account of the named option refused it
   pub refused-on : (s named : Chosen) (x : Record) (r : Result Chosen Fault) (f : Fault) → s ≡ named → r ≡ Err f → ((y : RefT (List ℕ)) → x ≡ records.Year y → ⊥)
-    → PutsOn calendar c named (tag-in x) (content-in x) (Err f) → ChosenPuts calendar c s (tag-in x) (content-in x) r
+      → PutsOn calendar c named (tag-in x) (content-in x) (Err f) → ChosenPuts calendar c s (tag-in x) (content-in x) r
   refused-on s named x r f is err no-year puts =
       let here : PutsOn calendar c named (tag-in x) (content-in x) r = subst (λ q. PutsOn calendar c named (tag-in x) (content-in x) q) (sym err) puts in
       after-year s x r no-year (subst (λ q. PutsOn calendar c q (tag-in x) (content-in x) r) (sym is) here)

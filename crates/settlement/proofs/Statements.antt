@@ -14,7 +14,7 @@ use Rattle.settlement.specs.declared.account_of_file.AccountOfFile.the-variant
 use Rattle.settlement.specs.Putting.{SettlesIn}
 
 pub closed-in : {O : Type 0} (m : Meaning O) (s : AccountOfFile O) (a last : Opened O) (r : Answer) (before after : Statement) → s ≡ states.Opened a → complete a ≡ true → last ≡ a
-  → Fills r (finally m last) (settled m last Final) before after → SettlesIn m s r before after
+    → Fills r (finally m last) (settled m last Final) before after → SettlesIn m s r before after
 closed-in m s a last r before after is full same fills =
     let here : Fills r (finally m a) (settled m a Final) before after = subst (λ x. Fills r (finally m x) (settled m x Final) before after) same fills in
     let whole : SettlesIn m (states.Opened a) r before after = subst (λ t. When t (Fills r (finally m a) (settled m a Final) before after) (Fills r (interim m a) (settled m a Interim) before after)) (sym full) here in

@@ -36,17 +36,17 @@ module _ (table : PublishedTable) (file : List ℕ) where
     misplaced : {p n : ℕ} {o : Order} {s : Chosen} {f : Fault} {tag : Tag} {content : List ℕ} (o′ : Order) → decoded p (drop p file) ≡ Ok (Some tag, content, n) → Follows o tag p (Err f) o′ → Comes p o s (Err f)
     -- the account refuses the record: its fault gets the record's offset as its place
     refused : {p n : ℕ} {o o′ : Order} {s : Chosen} {tag : Tag} {content : List ℕ} (f : Fault) → Stands-here p o tag content n o′ → (tag ≡ tags.End → ⊥)
-      → ChosenPuts table-calendar table s tag content (Err f) → Comes p o s (Err (fault (f .cause) p))
+        → ChosenPuts table-calendar table s tag content (Err f) → Comes p o s (Err (fault (f .cause) p))
     -- the account takes the record, and the file goes on after it
     goes-on : {p n : ℕ} {o o′ : Order} {s t : Chosen} {tag : Tag} {content : List ℕ} {out : Result Statement Fault} → Stands-here p o tag content n o′ → (tag ≡ tags.End → ⊥)
-      → ChosenPuts table-calendar table s tag content (Ok t) → Comes (p + n) o′ t out → Comes p o s out
+        → ChosenPuts table-calendar table s tag content (Ok t) → Comes (p + n) o′ t out → Comes p o s out
     -- something follows the end
     too-long : {p n : ℕ} {o o′ : Order} {s : Chosen} {content : List ℕ} → Stands-here p o tags.End content n o′ → n < length (drop p file) → Comes p o s (Err (fault BytesAfterEnd (p + n)))
     -- the account gives no statement at the end
     unsettled : {p n : ℕ} {o o′ : Order} {s : Chosen} {content : List ℕ} (f : Fault) (after : Statement) → Stands-here p o tags.End content n o′ → length (drop p file) ≤ n
-      → ChosenSettles s (Err f) blank after → Comes p o s (Err (fault (f .cause) p))
+        → ChosenSettles s (Err f) blank after → Comes p o s (Err (fault (f .cause) p))
     settled-at-end : {p n : ℕ} {o o′ : Order} {s : Chosen} {statement : Statement} {content : List ℕ} → Stands-here p o tags.End content n o′ → length (drop p file) ≤ n
-      → ChosenSettles s (Ok tt) blank statement → Comes p o s (Ok statement)
+        → ChosenSettles s (Ok tt) blank statement → Comes p o s (Ok statement)
 
   -- what the whole file comes to, from its first byte and no account on
   abbrev pub Comes-to : Result Statement Fault → Type 0

@@ -1,7 +1,7 @@
 // A file being settled: pieces of it come in, and each record is put to the account once it is held whole.
 ghost use mathlib.Core.Path.{_≡_};
 ghost use Rattle.settlement.specs.Progress.{open-still, Steps};
-ghost use Rattle.settlement.specs.Settling.{StepsOn, Ends};
+ghost use Rattle.settlement.specs.Settling.{StepsOn, Ends, Keeps, WantsMore, StartsIn, TakesPiece, Answers-for};
 use crate::chosen::Chosen;
 use calendar::published_table::PublishedTable;
 use calendar::published_table::PublishedTableCalendar;
@@ -31,7 +31,9 @@ pub struct Settlement<'t> {
 }
 
 impl<'t> Settlement<'t> {
-    pub fn new(table: PublishedTable<'t>) -> Settlement<'t> {
+    pub fn new(table: PublishedTable<'t>) -> Settlement<'t>
+        ensures { λ r. ⌜ StartsIn (table .entry) r ⌝ }
+    {
         Settlement {
             table,
             window: Window::new(),
@@ -48,21 +50,22 @@ impl<'t> Settlement<'t> {
         matches!(self.outcome, Outcome::Open)
     }
 
-    // Takes in the next piece of the file.
-    pub fn feed(&mut self, piece: &[u8]) {
+    // Takes in the next piece of the file. What is held whole is settled first, so that there is room.
+    pub fn feed(&mut self, piece: &[u8])
+        ensures { λ _. ⌜ TakesPiece (now (self .entry)) (now (piece .entry)) (now (self .exit)) ⌝ }
+    {
         let mut rest = piece;
         while self.is_open() && !rest.is_empty() {
-            let taken = self.window.feed(rest);
-            if taken == 0 {
-                break;
-            }
-            rest = &rest[taken..];
             self.advance();
+            let taken = self.window.feed(rest);
+            rest = &rest[taken..];
         }
     }
 
     // The file has no more: what it comes to.
-    pub fn finish(mut self) -> Result<Statement, Fault> {
+    pub fn finish(mut self) -> Result<Statement, Fault>
+        ensures { λ r. ⌜ Answers-for (self .entry) r ⌝ }
+    {
         self.window.finish();
         self.advance();
         match self.outcome {
@@ -73,7 +76,10 @@ impl<'t> Settlement<'t> {
     }
 
     // Settles the records that are held whole.
-    fn advance(&mut self) {
+    fn advance(&mut self)
+        ensures keeps { λ _. ⌜ Keeps (now (self .entry)) (now (self .exit)) ⌝ }
+        ensures wants_more { λ _. ⌜ WantsMore (now (self .exit)) ⌝ }
+    {
         while self.is_open() && self.window.is_ready() {
             if let Err(fault) = self.step() {
                 self.outcome = Outcome::Refused(fault);

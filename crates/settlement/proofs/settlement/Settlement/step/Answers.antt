@@ -32,7 +32,7 @@ returns-in-Break-record c =
     record {
       less = search needs;
       onward = refused-step (c .args .self .now) _ (c .from-residual .result) (c .in-Break-record .field-0 .0) (p .1 ∙ ap refusal (p .2)) refl refl
-        (λ file rest stands there. unreadable (sym (whole file rest stands there)));
+          (λ file rest stands there. unreadable (sym (whole file rest stands there)));
     }
 
 pub returns-in-Break-allow : need.returns-in-Break-allow
@@ -47,7 +47,7 @@ returns-in-Break-allow c =
     record {
       less = search needs;
       onward = refused-step s _ (c .from-residual-in-Break-allow .result) f (p .1 ∙ ap refusal (p .2)) refl refl
-        (λ file rest stands there. misplaced o (sym (whole file rest stands there)) follows);
+          (λ file rest stands there. misplaced o (sym (whole file rest stands there)) follows);
     }
 
 pub returns-in-Err : need.returns-in-Err
@@ -63,28 +63,28 @@ returns-in-Err c =
     record {
       less = search needs;
       onward = refused-step s _ (Err (c .at .result)) (c .at .result) refl refl refl
-        (λ file rest stands there.
+          (λ file rest stands there.
           subst (λ g. ComesHere file s (Err g)) (sym (c .at .ensures ∙ ap (λ q. fault (f .cause) q) (c .offset-offset .ensures)))
-            (refused-here s (tag-in x) (content-in x) (c .in-Continue-record .size) o whole f follows (no-end-tag x (c .in-rest .not-End)) puts file rest stands there));
+          (refused-here s (tag-in x) (content-in x) (c .in-Continue-record .size) o whole f follows (no-end-tag x (c .in-rest .not-End)) puts file rest stands there));
     }
 
 pub returns-in-Ok : need.returns-in-Ok
 returns-in-Ok c = record {
   less = λ still.
-    let held = pending (c .args .self .now .window) in
-    let size = c .in-Continue-record .size in
-    let fits = c .in-Continue-record .ensures tt .fits in
-    omega (arith, ap length (c .pass .ensures .passed .held), length-drop size held, fits .size, fits .within);
+      let held = pending (c .args .self .now .window) in
+      let size = c .in-Continue-record .size in
+      let fits = c .in-Continue-record .ensures tt .fits in
+      omega (arith, ap length (c .pass .ensures .passed .held), length-drop size held, fits .size, fits .within);
   onward =
-    let s = c .args .self .now in
-    let x = c .in-Continue-record .record in
-    let o = c .allow .last .self in
-    let whole = c .in-Continue-record .ensures tt .whole in
-    let fits = c .in-Continue-record .ensures tt .fits in
-    let tagged : Follows (s .order) (tag-in x) (c .offset-offset .result) (Ok tt) o = subst (λ t. Follows (s .order) t (c .offset-offset .result) (Ok tt) o) (c .tag .ensures) (c .in-Continue-allow .ensures tt) in
-    let follows : Follows (s .order) (tag-in x) (s .window .offset) (Ok tt) o = subst (λ q. Follows (s .order) (tag-in x) q (Ok tt) o) (c .offset-offset .ensures) tagged in
-    let puts : ChosenPuts table-calendar (s .table) (s .chosen) (tag-in x) (content-in x) (Ok (c .in-Ok .chosen)) = subst (λ h. ChosenPuts table-calendar (s .table) h (tag-in x) (content-in x) (Ok (c .in-Ok .chosen))) (c .replace .ensures .value) (c .in-Ok .ensures tt) in
-    goes-on-here s (tag-in x) (content-in x) (c .in-Continue-record .size) o whole _ (c .in-Ok .chosen) follows (no-end-tag x (c .in-rest .not-End)) puts
+      let s = c .args .self .now in
+      let x = c .in-Continue-record .record in
+      let o = c .allow .last .self in
+      let whole = c .in-Continue-record .ensures tt .whole in
+      let fits = c .in-Continue-record .ensures tt .fits in
+      let tagged : Follows (s .order) (tag-in x) (c .offset-offset .result) (Ok tt) o = subst (λ t. Follows (s .order) t (c .offset-offset .result) (Ok tt) o) (c .tag .ensures) (c .in-Continue-allow .ensures tt) in
+      let follows : Follows (s .order) (tag-in x) (s .window .offset) (Ok tt) o = subst (λ q. Follows (s .order) (tag-in x) q (Ok tt) o) (c .offset-offset .ensures) tagged in
+      let puts : ChosenPuts table-calendar (s .table) (s .chosen) (tag-in x) (content-in x) (Ok (c .in-Ok .chosen)) = subst (λ h. ChosenPuts table-calendar (s .table) h (tag-in x) (content-in x) (Ok (c .in-Ok .chosen))) (c .replace .ensures .value) (c .in-Ok .ensures tt) in
+      goes-on-here s (tag-in x) (content-in x) (c .in-Continue-record .size) o whole _ (c .in-Ok .chosen) follows (no-end-tag x (c .in-rest .not-End)) puts
       (omega (arith, fits .size)) (fits .within) (c .pass .ensures .passed) (c .pass .ensures .stands) refl refl refl refl;
 }
 
@@ -92,17 +92,17 @@ pub returns-in-End : need.returns-in-End
 returns-in-End c = record {
   less = search needs;
   onward =
-    let s = c .args .self .now in
-    let x = c .in-Continue-record .record in
-    let n = c .in-Continue-record .size in
-    let o = c .allow .last .self in
-    let u : Settlement = record { table = s .table; window = s .window; order = o; chosen = s .chosen; outcome = s .outcome } in
-    let end : x ≡ records.End = c .in-End .is in
-    let fits = c .in-Continue-record .ensures tt .fits in
-    let three : n ≡ 3 = fits .size ∙ ap (λ y. 3 + length (content-in y)) end in
-    let whole : AnswersForFile (s .window) (Ok (Some tags.End, content-in x, n)) = subst (λ t. AnswersForFile (s .window) (Ok (Some t, content-in x, n))) (ap tag-in end) (c .in-Continue-record .ensures tt .whole) in
-    let tagged : Follows (s .order) tags.End (c .offset-offset .result) (Ok tt) o = subst (λ t. Follows (s .order) t (c .offset-offset .result) (Ok tt) o) (c .tag .ensures ∙ ap tag-in end) (c .in-Continue-allow .ensures tt) in
-    let follows : Follows (s .order) tags.End (s .window .offset) (Ok tt) o = subst (λ q. Follows (s .order) tags.End q (Ok tt) o) (c .offset-offset .ensures) tagged in
-    let ends : Ends u (s .window .offset) n (c .end .result) (c .end .last .self) = subst (λ q. Ends u q n (c .end .result) (c .end .last .self)) (c .offset-offset .ensures) (c .end .ensures .ends) in
-    end-step s u (c .end .last .self) (content-in x) n (c .end .result) refl refl refl ends three (fits .within) follows whole;
+      let s = c .args .self .now in
+      let x = c .in-Continue-record .record in
+      let n = c .in-Continue-record .size in
+      let o = c .allow .last .self in
+      let u : Settlement = record { table = s .table; window = s .window; order = o; chosen = s .chosen; outcome = s .outcome } in
+      let end : x ≡ records.End = c .in-End .is in
+      let fits = c .in-Continue-record .ensures tt .fits in
+      let three : n ≡ 3 = fits .size ∙ ap (λ y. 3 + length (content-in y)) end in
+      let whole : AnswersForFile (s .window) (Ok (Some tags.End, content-in x, n)) = subst (λ t. AnswersForFile (s .window) (Ok (Some t, content-in x, n))) (ap tag-in end) (c .in-Continue-record .ensures tt .whole) in
+      let tagged : Follows (s .order) tags.End (c .offset-offset .result) (Ok tt) o = subst (λ t. Follows (s .order) t (c .offset-offset .result) (Ok tt) o) (c .tag .ensures ∙ ap tag-in end) (c .in-Continue-allow .ensures tt) in
+      let follows : Follows (s .order) tags.End (s .window .offset) (Ok tt) o = subst (λ q. Follows (s .order) tags.End q (Ok tt) o) (c .offset-offset .ensures) tagged in
+      let ends : Ends u (s .window .offset) n (c .end .result) (c .end .last .self) = subst (λ q. Ends u q n (c .end .result) (c .end .last .self)) (c .offset-offset .ensures) (c .end .ensures .ends) in
+      end-step s u (c .end .last .self) (content-in x) n (c .end .result) refl refl refl ends three (fits .within) follows whole;
 }
