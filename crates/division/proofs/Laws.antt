@@ -9,7 +9,6 @@ use native.Mathlib.Omega.{arith}
 use lib.ListN.{length, take, getD}
 use Rattle.std.specs.shelf.Lists.{sum}
 use Rattle.std.proofs.shelf.Lists.{take-all, getD-past}
-use Rattle.std.proofs.shelf.Sums.{sumBy-take-le}
 use Rattle.division.specs.Shares.{together, share, Divided}
 use Rattle.division.proofs.Sums.{sum-more}
 
@@ -41,10 +40,6 @@ pub together-more : (amount : ℕ) (ws : List ℕ) (k : ℕ) → together amount
 together-more amount ws k =
     let m : sum (take k ws) ≤ sum (take (k + 1) ws) = omega (arith, sum-more ws k) in
     div-mono (amount * sum (take k ws)) (amount * sum (take (k + 1) ws)) (sum ws) (mul-le-mul-left amount m)
-
--- no share exceeds the amount
-pub share-le-amount : (amount : ℕ) (ws : List ℕ) (k : ℕ) → share amount ws k ≤ amount
-share-le-amount amount ws k = omega (arith, part-le-amount amount (sum (take (k + 1) ws)) (sum ws) (sumBy-take-le (λ x. x) ws (k + 1)))
 
 -- where some weight is not 0, all rows together get the amount
 pub whole : (amount : ℕ) (ws : List ℕ) → 0 < sum ws → together amount ws (length ws) ≡ amount

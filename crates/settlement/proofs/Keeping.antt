@@ -12,16 +12,13 @@ use Rattle.fault.specs.declared.Fault.{Fault}
 use Rattle.calendar.specs.declared.published_table.PublishedTable.{PublishedTable}
 use Rattle.statement.specs.declared.figures.Statement.{Statement}
 use Rattle.tagged_file.specs.Held.{ready}
-use Rattle.tagged_file.specs.Standing.{Stands, StandsOn, StandsAtEnd}
+use Rattle.tagged_file.specs.Standing.{StandsOn, StandsAtEnd}
 use Rattle.settlement.specs.declared.settlement.Outcome.{Outcome}
 use Rattle.settlement.specs.declared.settlement.Outcome.the-variants.{Open, Settled, Refused}
 use Rattle.settlement.specs.declared.settlement.Settlement.{Settlement}
 use Rattle.settlement.specs.Files.{Comes, Comes-to}
 use Rattle.settlement.specs.Progress.{open-still}
-use Rattle.settlement.specs.Settling.{ComesHere, Onward, StepIn, StepsOn, At, InFile, Keeps}
-
-pub keeps-none : (s : Settlement) → Keeps s s
-keeps-none s = record { finished = refl; in-file = λ table file rest here. here }
+use Rattle.settlement.specs.Settling.{ComesHere, Onward, StepsOn, At, InFile, Keeps}
 
 pub is-open : (outcome : Outcome) → open-still outcome ≡ true → outcome ≡ Open
 is-open Open e = refl

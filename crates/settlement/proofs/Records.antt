@@ -4,7 +4,7 @@ use mathlib.Core.List.{List}
 use Prim.Native.Nat.{ℕ}
 use denote.Ref.{RefT}
 use Rattle.std.specs.declared.result.Result.{Result}
-use Rattle.std.specs.declared.result.Result.the-variants.{Ok, Err}
+use Rattle.std.specs.declared.result.Result.the-variants.{Err}
 use Rattle.fault.specs.declared.Fault.{Fault}
 use Rattle.calendar.specs.declared.value_calendar.ValueCalendar.{Ghosts as Calendar}
 use Rattle.tagged_file.specs.declared.record.Record.{Record}

@@ -5,28 +5,24 @@ use mathlib.Core.Logic.{⊎-elim}
 use mathlib.Core.List.{List, [], _++_, append-nil}
 use Prim.Native.Nat.{ℕ, _+_, _<_, _≤_, min}
 use native.Mathlib.Omega.{arith}
-use denote.Ref.{RefT}
 use lib.Dec.{ltb}
 use lib.ListN.{length, drop, length-drop, length-append}
 use Rattle.std.specs.Orderings.{When}
 use Rattle.std.proofs.shelf.Tests.{cases-bool, ltb-true, ltb-false, lt-leb}
 use Rattle.std.specs.declared.option.Option.the-variants.{Some}
-use Rattle.std.specs.declared.result.Result.{Result}
 use Rattle.std.specs.declared.result.Result.the-variants.{Ok, Err}
 use Rattle.fault.specs.declared.Fault.{Fault}
 use Rattle.fault.specs.declared.cause.Cause.the-variants.{BytesAfterEnd}
 use Rattle.fault.specs.Questions.{Answer, fault}
 use Rattle.calendar.specs.contracts.published_table.PublishedTableCalendar.the-impl.{ghosts as table-calendar}
-use Rattle.statement.specs.declared.figures.Statement.{Statement}
 use Rattle.tagged_file.specs.declared.order.Order.{Order}
 use Rattle.tagged_file.specs.declared.record.Record.{Record}
 use Rattle.tagged_file.specs.declared.record.Record.the-variants as records
 use Rattle.tagged_file.specs.declared.record.Tag.{Tag}
 use Rattle.tagged_file.specs.declared.record.Tag.the-variants as tags
 use Rattle.tagged_file.specs.declared.window.Window.{Window}
-use Rattle.tagged_file.specs.Decoded.{decoded, Decoded}
 use Rattle.tagged_file.specs.Follows.{Follows}
-use Rattle.tagged_file.specs.Format.{tag-in, content-in}
+use Rattle.tagged_file.specs.Format.{tag-in}
 use Rattle.tagged_file.specs.Held.{pending, ready, Passed}
 use Rattle.tagged_file.specs.Limits.{most-offset}
 use Rattle.tagged_file.specs.Standing.{Stands, StandsOn, AnswersForFile}
@@ -46,6 +42,10 @@ no-end-tag (records.Contract y) unlike e = absurd (let z : _≡_ {A = ℕ} 0 1 =
 no-end-tag (records.Quarter y) unlike e = absurd (let z : _≡_ {A = ℕ} 0 1 = cc in omega arith)
 no-end-tag (records.Remark y) unlike e = absurd (let z : _≡_ {A = ℕ} 0 1 = cc in omega arith)
 no-end-tag records.End unlike e = unlike refl
+
+-- what may follow, said of the record's own tag and of the window's offset
+pub follows-at : (o o′ : Order) (tag tag′ : Tag) (p p′ : ℕ) (r : Answer) → tag ≡ tag′ → p ≡ p′ → Follows o tag p r o′ → Follows o tag′ p′ r o′
+follows-at o o′ tag tag′ p p′ r same here follows = subst (λ q. Follows o tag′ q r o′) here (subst (λ t. Follows o t p r o′) same follows)
 
 -- a step that refuses decides what the file comes to
 pub refused-step : (s t : Settlement) (r : Answer) (f : Fault) → r ≡ Err f → t .table ≡ s .table → t .window .finished ≡ s .window .finished

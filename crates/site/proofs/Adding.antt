@@ -1,8 +1,6 @@
 -- A register with one plant more is a register. Assumes nothing.
 use mathlib.Core.Path.{_≡_, sym, ap, subst, _∙_}
-use mathlib.Core.Bool.{true, false, cond}
 use mathlib.Core.Logic.{_≢_, ⊎-elim}
-use mathlib.Core.List.{List}
 use Prim.Native.Nat.{ℕ, _+_, _<_, _≤_}
 use native.Mathlib.Omega.{arith}
 use lib.Dec.{leb}
@@ -11,7 +9,6 @@ use lib.Seq.{getD-set-same, getD-set-other}
 use Rattle.std.specs.shelf.Lists.{sumBy}
 use Rattle.std.proofs.shelf.Sums.{sumBy-set}
 use Rattle.std.proofs.shelf.Tests.{and-parts, leb-true, cases-bool, cases-eq, cond-true, cond-false}
-use Rattle.std.specs.declared.option.Option.{Option}
 use Rattle.std.specs.declared.option.Option.the-variants.{Some, None}
 use Rattle.site.specs.declared.plant.Plant.{Plant}
 use Rattle.site.specs.declared.plant.PlantEntry.{PlantEntry}

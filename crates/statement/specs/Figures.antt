@@ -1,6 +1,6 @@
 -- The lines of a statement that count, and a statement that says nothing yet. Assumes nothing.
 use mathlib.Core.List.{List}
-use Prim.Native.Nat.{ℕ, min}
+use Prim.Native.Nat.{min}
 use lib.ListN.{replicate, take}
 use Rattle.statement.specs.declared.figures.ContractLine.{ContractLine}
 use Rattle.statement.specs.declared.figures.DrawFigures.{DrawFigures}

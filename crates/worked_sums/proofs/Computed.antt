@@ -1,7 +1,7 @@
 -- The worked sums hold. Assumes nothing.
-use mathlib.Core.Path.{_≡_, refl, sym, ap, _∙_}
+use mathlib.Core.Path.{_≡_, refl, ap, _∙_}
 use mathlib.Core.List.{[], _∷_}
-use Prim.Native.Nat.{ℕ, _-_, _+_, _*_, _/_, min}
+use Prim.Native.Nat.{ℕ, _-_, _*_, _/_, min}
 use native.Mathlib.Omega.{arith}
 use Rattle.options.specs.declared.delimitation.DelimitationOption.{DelimitationOption}
 use Rattle.options.specs.declared.flat.FlatOption.{FlatOption}

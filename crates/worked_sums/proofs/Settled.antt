@@ -1,16 +1,10 @@
 -- What the run's sums come to. Assumes nothing.
-use mathlib.Core.Path.{_≡_, refl, ap, _∙_}
-use mathlib.Core.List.{List}
-use Prim.Native.Nat.{ℕ, _-_, _*_, _/_, min}
+use mathlib.Core.Path.{_≡_}
+use Prim.Native.Nat.{_-_}
 use lib.ListN.{getD}
-use Rattle.division.specs.Shares.{share, weights}
 use Rattle.options.specs.contracts.flat.settles.FlatSettles.the-impl.{ghosts as flat}
 use Rattle.options.specs.declared.flat.FlatOption.{FlatOption}
-use Rattle.site.specs.declared.plant.Plant.{Plant}
 use Rattle.site.specs.declared.register.Register.{Register}
-use Rattle.site.specs.Plants.{no-plant}
-use Rattle.statement.specs.declared.figures.PlantLine.{PlantLine}
-use Rattle.statement.specs.declared.figures.Totals.{Totals}
 use Rattle.account.specs.Statements.{totals, plant-row}
 use Rattle.worked_sums.specs.Run.{one-plant, run-totals, run-plant}
 

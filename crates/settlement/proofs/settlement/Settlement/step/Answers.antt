@@ -8,7 +8,6 @@ use Rattle.std.specs.declared.result.Result.the-variants.{Ok, Err}
 use Rattle.fault.specs.declared.Fault.{Fault}
 use Rattle.fault.specs.Questions.{Answer, fault}
 use Rattle.calendar.specs.contracts.published_table.PublishedTableCalendar.the-impl.{ghosts as table-calendar}
-use Rattle.tagged_file.specs.Follows.{Follows}
 use Rattle.tagged_file.specs.Format.{tag-in, content-in}
 use Rattle.tagged_file.specs.Held.{pending}
 use Rattle.tagged_file.specs.Standing.{AnswersForFile}
@@ -19,7 +18,7 @@ use Rattle.settlement.specs.Choosing.{ChosenPuts}
 use Rattle.settlement.specs.Files.{unreadable, misplaced}
 use Rattle.settlement.specs.declared.settlement.Settlement.{Settlement}
 use Rattle.settlement.specs.Settling.{ComesHere, Ends}
-use Rattle.settlement.proofs.Stepping.{no-end-tag, refused-step, refused-here, goes-on-here, end-step}
+use Rattle.settlement.proofs.Stepping.{no-end-tag, follows-at, refused-step, refused-here, goes-on-here, end-step}
 use Rattle.settlement.proofs.settlement.Settlement.step.Needs as need
 
 abbrev refusal : Fault → Answer
@@ -42,8 +41,7 @@ returns-in-Break-allow c =
     let f = c .in-Break-allow .field-0 .0 in
     let o = c .allow .last .self in
     let whole = c .in-Continue-record .ensures tt .whole in
-    let tagged : Follows (s .order) (tag-in (c .in-Continue-record .record)) (c .offset-offset .result) (Err f) o = subst (λ t. Follows (s .order) t (c .offset-offset .result) (Err f) o) (c .tag .ensures) (c .in-Break-allow .ensures tt) in
-    let follows : Follows (s .order) (tag-in (c .in-Continue-record .record)) (s .window .offset) (Err f) o = subst (λ q. Follows (s .order) (tag-in (c .in-Continue-record .record)) q (Err f) o) (c .offset-offset .ensures) tagged in
+    let follows = follows-at (s .order) o (c .tag .result) (tag-in (c .in-Continue-record .record)) (c .offset-offset .result) (s .window .offset) (Err f) (c .tag .ensures) (c .offset-offset .ensures) (c .in-Break-allow .ensures tt) in
     record {
       less = search needs;
       onward = refused-step s _ (c .from-residual-in-Break-allow .result) f (p .1 ∙ ap refusal (p .2)) refl refl
@@ -57,8 +55,7 @@ returns-in-Err c =
     let f = c .in-Err .fault in
     let o = c .allow .last .self in
     let whole = c .in-Continue-record .ensures tt .whole in
-    let tagged : Follows (s .order) (tag-in x) (c .offset-offset .result) (Ok tt) o = subst (λ t. Follows (s .order) t (c .offset-offset .result) (Ok tt) o) (c .tag .ensures) (c .in-Continue-allow .ensures tt) in
-    let follows : Follows (s .order) (tag-in x) (s .window .offset) (Ok tt) o = subst (λ q. Follows (s .order) (tag-in x) q (Ok tt) o) (c .offset-offset .ensures) tagged in
+    let follows = follows-at (s .order) o (c .tag .result) (tag-in x) (c .offset-offset .result) (s .window .offset) (Ok tt) (c .tag .ensures) (c .offset-offset .ensures) (c .in-Continue-allow .ensures tt) in
     let puts : ChosenPuts table-calendar (s .table) (s .chosen) (tag-in x) (content-in x) (Err f) = subst (λ h. ChosenPuts table-calendar (s .table) h (tag-in x) (content-in x) (Err f)) (c .replace .ensures .value) (c .in-Err .ensures tt) in
     record {
       less = search needs;
@@ -81,8 +78,7 @@ returns-in-Ok c = record {
       let o = c .allow .last .self in
       let whole = c .in-Continue-record .ensures tt .whole in
       let fits = c .in-Continue-record .ensures tt .fits in
-      let tagged : Follows (s .order) (tag-in x) (c .offset-offset .result) (Ok tt) o = subst (λ t. Follows (s .order) t (c .offset-offset .result) (Ok tt) o) (c .tag .ensures) (c .in-Continue-allow .ensures tt) in
-      let follows : Follows (s .order) (tag-in x) (s .window .offset) (Ok tt) o = subst (λ q. Follows (s .order) (tag-in x) q (Ok tt) o) (c .offset-offset .ensures) tagged in
+      let follows = follows-at (s .order) o (c .tag .result) (tag-in x) (c .offset-offset .result) (s .window .offset) (Ok tt) (c .tag .ensures) (c .offset-offset .ensures) (c .in-Continue-allow .ensures tt) in
       let puts : ChosenPuts table-calendar (s .table) (s .chosen) (tag-in x) (content-in x) (Ok (c .in-Ok .chosen)) = subst (λ h. ChosenPuts table-calendar (s .table) h (tag-in x) (content-in x) (Ok (c .in-Ok .chosen))) (c .replace .ensures .value) (c .in-Ok .ensures tt) in
       goes-on-here s (tag-in x) (content-in x) (c .in-Continue-record .size) o whole _ (c .in-Ok .chosen) follows (no-end-tag x (c .in-rest .not-End)) puts
       (omega (arith, fits .size)) (fits .within) (c .pass .ensures .passed) (c .pass .ensures .stands) refl refl refl refl;
@@ -101,8 +97,7 @@ returns-in-End c = record {
       let fits = c .in-Continue-record .ensures tt .fits in
       let three : n ≡ 3 = fits .size ∙ ap (λ y. 3 + length (content-in y)) end in
       let whole : AnswersForFile (s .window) (Ok (Some tags.End, content-in x, n)) = subst (λ t. AnswersForFile (s .window) (Ok (Some t, content-in x, n))) (ap tag-in end) (c .in-Continue-record .ensures tt .whole) in
-      let tagged : Follows (s .order) tags.End (c .offset-offset .result) (Ok tt) o = subst (λ t. Follows (s .order) t (c .offset-offset .result) (Ok tt) o) (c .tag .ensures ∙ ap tag-in end) (c .in-Continue-allow .ensures tt) in
-      let follows : Follows (s .order) tags.End (s .window .offset) (Ok tt) o = subst (λ q. Follows (s .order) tags.End q (Ok tt) o) (c .offset-offset .ensures) tagged in
+      let follows = follows-at (s .order) o (c .tag .result) tags.End (c .offset-offset .result) (s .window .offset) (Ok tt) (c .tag .ensures ∙ ap tag-in end) (c .offset-offset .ensures) (c .in-Continue-allow .ensures tt) in
       let ends : Ends u (s .window .offset) n (c .end .result) (c .end .last .self) = subst (λ q. Ends u q n (c .end .result) (c .end .last .self)) (c .offset-offset .ensures) (c .end .ensures .ends) in
       end-step s u (c .end .last .self) (content-in x) n (c .end .result) refl refl refl ends three (fits .within) follows whole;
 }

@@ -1,7 +1,7 @@
 use native.Mathlib.Omega.{arith}
 use Prim.Native.Nat.{_<_, _+_}
 use lib.ListN.{length}
-use mathlib.Core.Path.{_∙_, sym, ap}
+use mathlib.Core.Path.{_∙_, ap}
 use lib.Seq.{take-all}
 use Rattle.std.proofs.shelf.Sums.{sumBy-more, sumBy-take-le}
 use Rattle.site.specs.Plants.{no-plant, power-of, kind-power}
