@@ -1,4 +1,6 @@
 // The year account: an opened year takes contracts and quarters, and a closed one is settled for good.
+#![tactic(auto)]
+
 pub mod contract;
 pub mod entering;
 pub mod ledger;

@@ -1,4 +1,6 @@
 // The sample site's file, damaged in many ways, and what each damaged file comes to: settled, or refused by which question and where.
+#![tactic(auto)]
+
 use calendar::published_table::PublishedTable;
 use settlement::pieces::settle_bytes;
 use std::{fs, io};

@@ -1,4 +1,6 @@
 // Lines and texts of prices, right and wrong, and what each comes to.
+#![tactic(auto)]
+
 use price_line::price::price;
 use price_line::run_lengths::run_lengths;
 use price_text::text::read_text;

@@ -1,4 +1,6 @@
 // Statements that balance against the calls before them, whatever calls were made of an account.
+#![tactic(auto)]
+
 ghost use Rattle.figures.specs.declared.lines.Standing.TheVariants.{Interim, Final};
 ghost use Rattle.account.specs.Statements.{settled, interim, finally, Fills};
 ghost use Rattle.balance.specs.Runs.{opened, closed};

@@ -1,4 +1,6 @@
 // A run of an account's calls with refused ones among them: each call's answer, and each statement beside what the calls before it brought.
+#![tactic(auto)]
+
 use account::year::{Closed, Opened};
 use balance::{final_statement, interim_statement};
 use brought::Brought;

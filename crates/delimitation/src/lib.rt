@@ -1,4 +1,6 @@
 // The delimitation option: what it holds.
+#![tactic(auto)]
+
 ghost use Rattle.std.specs.Prelude.{◌≡◌, ℕ, ◌+◌, ◌*◌, ◌≤◌, length, slice_index_or};
 
 use options::settlement_option::PLACES;

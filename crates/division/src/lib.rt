@@ -1,4 +1,6 @@
 // An amount divided over rows by weight.
+#![tactic(auto)]
+
 ghost use Rattle.std.specs.Prelude.{◌≡◌, ℕ, ◌*◌, ◌/◌, ◌^◌, ◌<◌, ◌≤◌, sum};
 ghost use Rattle.division.specs.Shares.{weights, Divided};
 

@@ -1,4 +1,6 @@
 // A refusal: which question got a no, and where.
+#![tactic(auto)]
+
 ghost use Rattle.std.specs.Prelude.{◌≡◌, Some};
 ghost use Rattle.fault.specs.Text.{fault_text};
 

@@ -1,4 +1,6 @@
 // The flat option: what it holds.
+#![tactic(auto)]
+
 ghost use Rattle.std.specs.Prelude.{◌≡◌, ℕ, ◌*◌, ◌≤◌, get_or, length};
 
 use options::settlement_option::PLACES;

@@ -1,4 +1,6 @@
 // Files that come in pieces of many sizes, and records that lie over the edge of a piece at each of their bytes: the outcome is the same.
+#![tactic(auto)]
+
 mod files;
 
 use crate::files::{remarked_year, shifted};

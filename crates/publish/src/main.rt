@@ -1,4 +1,6 @@
 // publish: a year's prices from standard input, and their published table to standard output.
+#![tactic(auto)]
+
 use anyhow::anyhow;
 use publishing::published;
 use std::io::{Read, Write};

@@ -1,4 +1,6 @@
 // The published table of a year's prices, from their text.
+#![tactic(auto)]
+
 ghost use Rattle.publishing.specs.Published.{Published};
 
 use price_rule::price_rule::PriceRule;

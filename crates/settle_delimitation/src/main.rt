@@ -1,4 +1,5 @@
 // settle, run on a site with a store under the delimitation option.
+#![tactic(auto)]
 
 fn main(rt: HostRuntime) -> anyhow::Result<()> {
     terminal::settle(rt)

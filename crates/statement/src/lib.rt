@@ -1,4 +1,6 @@
 // A statement of a year: what it says became of the year's draw and feed-in, and how it is printed.
+#![tactic(auto)]
+
 ghost use Rattle.std.specs.Prelude.{◌≡◌};
 ghost use Rattle.statement.specs.Lines.{plant_lines, contract_lines, blank};
 

@@ -1,4 +1,6 @@
 // Any value calendar written as a published table.
+#![tactic(auto)]
+
 ghost use Rattle.std.specs.Prelude.{◌≡◌, ◌+◌, ◌^◌, ◌<◌, ◌≤◌};
 ghost use Rattle.table_of_values.specs.Writing.{marked, Marks, Table};
 

@@ -1,5 +1,7 @@
 // What the program settle does: it reads a tagged file from standard input and the published table from calendar.bin in the
 // current folder, and prints the statement, or the one line of a refusal.
+#![tactic(auto)]
+
 mod standard_input;
 
 use crate::standard_input::StandardInput;

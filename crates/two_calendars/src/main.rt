@@ -1,4 +1,6 @@
 // The price rule and the published table of the same year, asked the same questions.
+#![tactic(auto)]
+
 use anyhow::anyhow;
 use calendar::published_table::PublishedTable;
 use calendar::value_calendar::{LAST_REGIME, ValueCalendar};

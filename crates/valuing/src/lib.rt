@@ -1,4 +1,6 @@
 // What becomes of a year's draw and feed-in: the totals, and each plant's portion with the part of it that is valued.
+#![tactic(auto)]
+
 ghost use Rattle.std.specs.Prelude.{◌≡◌, ◌<◌, ◌≤◌};
 ghost use Rattle.valuing.specs.Valued.{drawn, valued, line, plant_lines, totals};
 

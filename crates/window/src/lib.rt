@@ -1,4 +1,6 @@
 // The part of the input that is held: it came in, and was not yet passed.
+#![tactic(auto)]
+
 ghost use Rattle.std.specs.Prelude.{◌≤◌};
 ghost use Rattle.window.specs.Limits.{window_bytes};
 

@@ -1,4 +1,6 @@
 // The worked sums of the rules, proved about the definitions that the contracts cite.
+#![tactic(auto)]
+
 ghost use Rattle.worked_sums.specs.Sums.{WorkedSums};
 
 pub mod calendar_of_run;

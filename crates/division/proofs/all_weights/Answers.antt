@@ -4,8 +4,8 @@ use Rattle.division.specs.Shares.{weights}
 use Rattle.division.proofs.Sums.{weights_more}
 use Rattle.division.proofs.all_weights.Goals as goal
 
-pub overflow-add-all : goal.overflow-add-all
-overflow-add-all g c = omega arith
+pub overflow_add-all : goal.overflow_add-all
+overflow_add-all g c = omega arith
 
 pub loop-row-preserved : goal.loop-row-preserved
 loop-row-preserved g c =

@@ -6,8 +6,8 @@ use Rattle.division.proofs.Laws.{together_none, together_more, divided}
 use Rattle.division.proofs.divide.Given as given
 use Rattle.division.proofs.divide.Goals as goal
 
-pub overflow-add-weights_so_far : goal.overflow-add-weights_so_far
-overflow-add-weights_so_far g c =
+pub overflow_add-weights_so_far : goal.overflow_add-weights_so_far
+overflow_add-weights_so_far g c =
     let more = weights_more g.R.Weighted.weight c.args.rows.now c.loop-place.place c.index-rows-place.result _ _ (omega arith) c.loop-place.invariant.0 c.weight.ensures in
     omega arith
 
@@ -25,8 +25,8 @@ reaches g c =
     let is = more.0 in
     (is, cc)
 
-pub overflow-sub-shares : goal.overflow-sub-shares
-overflow-sub-shares g c =
+pub overflow_sub-shares : goal.overflow_sub-shares
+overflow_sub-shares g c =
     omega (arith, (reaches g c).1, together_more c.args.amount (weights g.R.Weighted.weight c.args.rows.now) c.loop-place.place)
 
 pub loop-place-init : goal.loop-place-init

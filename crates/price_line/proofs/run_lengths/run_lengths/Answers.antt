@@ -18,8 +18,8 @@ returns-in_err-length c =
     let whole = cond-true (says_runs line) (fields_of 8 (drop 4 line)) _ (sym c.if-not-says_runs.ensures.is) in
     p.1 ∙ ap err p.2 ∙ sym (whole ∙ sym c.loop-regime.invariant.2 ∙ stopped (take i c.loop-regime.lengths) (8 - i) (7 - i) text (omega arith) c.in_err-length.field-0.0 is)
 
-pub overflow-add-at : goal.overflow-add-at
-overflow-add-at c =
+pub overflow_add-at : goal.overflow_add-at
+overflow_add-at c =
     let line = c.args.line.now in
     let at = c.loop-regime.at in
     let f = c.in_ok-length.field-0 in

@@ -2,8 +2,8 @@ use Rattle.std.proofs.Common.{◌-◌, ◌<◌, length, arith, length-set}
 use Rattle.account.proofs.Rows.{empty_past, draw_within, booked_draw}
 use Rattle.account.proofs.ledger.Ledger.book.Goals as goal
 
-pub overflow-add-contracts : goal.overflow-add-contracts
-overflow-add-contracts c =
+pub overflow_add-contracts : goal.overflow_add-contracts
+overflow_add-contracts c =
     let l = c.args.self.now in
     let there : l.begun - 1 < length l.contracts = omega (arith, l.places) in
     omega (arith, draw_within l (l.begun - 1) there, l.booked)

@@ -4,8 +4,8 @@ use Rattle.site.specs.Plants.{no_plant, power_of, kind_power}
 use Rattle.site.proofs.Powers.{kind_within}
 use Rattle.site.proofs.register.Register.kind_power.Goals as goal
 
-pub overflow-add-sum : goal.overflow-add-sum
-overflow-add-sum c =
+pub overflow_add-sum : goal.overflow_add-sum
+overflow_add-sum c =
     let g = c.args.self.now in
     let of = power_of c.args.kind in
     let i = c.loop-plant.plant-index in
