@@ -11,8 +11,8 @@ returns-then-is_empty c =
     let text = c.args.text.now in
     ap told (nil_from_length text (eqb-true (length text) 0 (sym c.if-is_empty.ensures)))
 
-pub returns-then-count-ne-LEAP-YEAR : goal.returns-then-count-ne-LEAP-YEAR
-returns-then-count-ne-LEAP-YEAR c =
+pub returns-then-count-ne-LEAP_YEAR : goal.returns-then-count-ne-LEAP_YEAR
+returns-then-count-ne-LEAP_YEAR c =
     let text = c.args.text.now in
     let line = c.line_from-end.result in
     let prices = c.in_ok-prices.prices in
@@ -22,5 +22,5 @@ returns-then-count-ne-LEAP-YEAR c =
       record { lengths = lengths; prices = vec_items prices },
       told_all text line.end line.next c.line_from-end.ensures lengths (vec_items prices) (sym c.run_lengths.ensures ∙ c.in-Ok.is) c.in_ok-prices.ensures,
       ap (λ n. n + 1) counted,
-      ap is_year (sym counted) ∙ or_from (eqb count 35040) (eqb count 35136) (ne_eqb count 35040 c.if-count-ne-COMMON-YEAR.true) (ne_eqb count 35136 c.if-count-ne-LEAP-YEAR.true),
+      ap is_year (sym counted) ∙ or_from (eqb count 35040) (eqb count 35136) (ne_eqb count 35040 c.if-count-ne-COMMON_YEAR.true) (ne_eqb count 35136 c.if-count-ne-LEAP_YEAR.true),
     )

@@ -5,10 +5,13 @@ use Rattle.window.proofs.Parts.{length_part_le, part_drop}
 use Rattle.window.proofs.Standing.{stands_passed}
 use Rattle.window.proofs.Window.pass.Goals as goal
 
-pub invariant-of-self : goal.invariant-of-self
-invariant-of-self c =
+pub invariant_of-self : goal.invariant_of-self
+invariant_of-self c =
     let w = c.args.self.now in
-    (omega (arith, ap length c.held.ensures, length_part_le w.bytes w.start w.end), (omega arith, tt))
+    record {
+      ordered = omega (arith, ap length c.held.ensures, length_part_le w.bytes w.start w.end);
+      within = omega arith;
+    }
 
 pub returns : goal.returns
 returns c =

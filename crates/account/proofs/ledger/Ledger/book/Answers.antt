@@ -8,19 +8,14 @@ overflow_add-contracts c =
     let there : l.begun - 1 < length l.contracts = omega (arith, l.places) in
     omega (arith, draw_within l (l.begun - 1) there, l.booked)
 
-pub invariant-of-self : goal.invariant-of-self
-invariant-of-self c =
+pub invariant_of-self : goal.invariant_of-self
+invariant_of-self c =
     let l = c.args.self.now in
-    let there : l.begun - 1 < length l.contracts = omega (arith, l.places) in (
-      simp length-set l.places,
-      (
-        omega arith,
-        (
-          omega arith,
-          (
-            λ i h. empty_past l (l.begun - 1) _ i (omega arith) (omega arith),
-            (omega (arith, booked_draw l (l.begun - 1) there c.args.draw, l.booked), tt),
-          ),
-        ),
-      ),
-    )
+    let there : l.begun - 1 < length l.contracts = omega (arith, l.places) in
+    record {
+      places = simp length-set l.places;
+      few = omega arith;
+      year = omega arith;
+      empty = λ i h. empty_past l (l.begun - 1) _ i (omega arith) (omega arith);
+      booked = omega (arith, booked_draw l (l.begun - 1) there c.args.draw, l.booked);
+    }

@@ -3,8 +3,8 @@ use Rattle.options.proofs.Allowed.{each}
 use Rattle.options.proofs.Marked.{uncapped, marked_within}
 use Rattle.delimitation.proofs.settles.DelimitationOptionSettlementOption.take.Goals as goal
 
-pub invariant-of-self : goal.invariant-of-self
-invariant-of-self c =
+pub invariant_of-self : goal.invariant_of-self
+invariant_of-self c =
     let o = c.args.self.now in
     let admitted = c.in_ok-admit.ensures.admitted in
     let small = each c.args.amounts admitted.0 in

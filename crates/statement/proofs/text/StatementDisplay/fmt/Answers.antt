@@ -23,7 +23,7 @@ loop-plant-init g c = λ plain. record { wrote = writes_in_calls_nil g.W.Write.w
 pub loop-plant-preserved : goal.loop-plant-preserved
 loop-plant-preserved g c = λ plain.
     let before = c.loop-plant.invariant plain in
-    let here = c.in_ok-write-4.ensures.shows before.plain (refl {a = true}) in
+    let here = c.in_ok-write-4.ensures.writes before.plain (refl {a = true}) in
     has_written_of_eq g.W.Write.write_str_gives _ _ _ _ (line_more plant_line c.plant_lines-plant-items.result.now c.loop-plant.plant-index no_plant_line c.loop-plant-test.true)
     (has_written_append g.W.Write.write_str_gives _ _ _ _ _ before here)
 
@@ -33,7 +33,7 @@ loop-contract-init g c = λ plain. record { wrote = writes_in_calls_nil g.W.Writ
 pub loop-contract-preserved : goal.loop-contract-preserved
 loop-contract-preserved g c = λ plain.
     let before = c.loop-contract.invariant plain in
-    let here = c.in_ok-write-5.ensures.shows before.plain (refl {a = true}) in
+    let here = c.in_ok-write-5.ensures.writes before.plain (refl {a = true}) in
     has_written_of_eq g.W.Write.write_str_gives _ _ _ _ (line_more contract_line c.contract_lines-contract-items.result.now c.loop-contract.contract-index no_contract_line c.loop-contract-test.true)
     (has_written_append g.W.Write.write_str_gives _ _ _ _ _ before here)
 
@@ -43,9 +43,9 @@ returns-clause-writes g c = λ plain ok.
     let took = g.W.Write.write_str_gives in
     let ps : take c.loop-plant.plant-index c.plant_lines-plant-items.result.now ≡ plant_lines s = take_all _ _ c.loop-plant-test.false ∙ c.plant_lines-plant-items.ensures in
     let cs : take c.loop-contract.contract-index c.contract_lines-contract-items.result.now ≡ contract_lines s = take_all _ _ c.loop-contract-test.false ∙ c.contract_lines-contract-items.ensures in
-    let year = c.in_ok-write.ensures.shows plain (refl {a = true}) in
-    let draw = c.in_ok-write-2.ensures.shows year.plain (refl {a = true}) in
-    let feed_in = c.in_ok-write-3.ensures.shows draw.plain (refl {a = true}) in
+    let year = c.in_ok-write.ensures.writes plain (refl {a = true}) in
+    let draw = c.in_ok-write-2.ensures.writes year.plain (refl {a = true}) in
+    let feed_in = c.in_ok-write-3.ensures.writes draw.plain (refl {a = true}) in
     let plants = c.loop-plant.invariant feed_in.plain in
     let contracts = c.loop-contract.invariant plants.plain in
     let first : List ℕ = (year_line s ++ as_line (draw_text s.totals.draw)) ++ as_line (feed_in_text s.totals.feed_in) in
