@@ -8,4 +8,4 @@ loop-self-preserved-in-Err c =
 
 pub loop-self-preserved : goal.loop-self-preserved
 loop-self-preserved c =
-    keeps_step c.args.self.now c.loop-self.self c.step.new.self c.loop-self.invariant (is_open _ (sym c.loop-self-test.ensures)) (sym c.if-is_ready.ensures) c.in-default.ensures.onward
+    keeps_step c.args.self.now c.loop-self.self c.step.new.self c.loop-self.invariant (is_open _ (sym c.loop-self-test.ensures)) (sym c.if-is_ready.ensures) c.in_default.ensures.onward

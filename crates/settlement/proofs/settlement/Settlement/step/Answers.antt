@@ -58,7 +58,7 @@ returns-in-Err c =
       onward = refused_step s _ (Err c.at.result) c.at.result refl refl refl
           (λ file rest stands there.
           subst (λ g. ComesHere file s (Err g)) (sym (c.at.ensures ∙ ap (λ q. fault f.cause q) c.offset-offset.ensures))
-          (refused_here s (tag_in x) (content_in x) c.in_ok-record.size o whole f follows (no_end_tag x c.in-default.not-End) puts file rest stands there));
+          (refused_here s (tag_in x) (content_in x) c.in_ok-record.size o whole f follows (no_end_tag x c.in_default.not-End) puts file rest stands there));
     }
 
 pub returns-in-Ok : goal.returns-in-Ok
@@ -76,7 +76,7 @@ returns-in-Ok c = record {
       let fits = c.in_ok-record.ensures.fits in
       let follows = follows_at s.order o c.tag.result (tag_in x) c.offset-offset.result s.window.offset (Ok tt) c.tag.ensures c.offset-offset.ensures c.in_ok-allow.ensures in
       let puts : ChosenPuts table_calendar s.table s.chosen (tag_in x) (content_in x) (Ok c.in-Ok.chosen) = subst (λ h. ChosenPuts table_calendar s.table h (tag_in x) (content_in x) (Ok c.in-Ok.chosen)) c.replace.ensures.value c.in-Ok.ensures in
-      goes_on_here s (tag_in x) (content_in x) c.in_ok-record.size o whole _ c.in-Ok.chosen follows (no_end_tag x c.in-default.not-End) puts
+      goes_on_here s (tag_in x) (content_in x) c.in_ok-record.size o whole _ c.in-Ok.chosen follows (no_end_tag x c.in_default.not-End) puts
       fits.long fits.size fits.within c.pass.ensures.passed c.pass.ensures.stands refl refl refl refl;
 }
 
