@@ -44,3 +44,10 @@ told_all text end next line lengths prices first others =
     ∙ ap (λ t. lengths_then (run_lengths_of t) (prices_of 2 (lines_of (drop next text)))) line.splits.2
     ∙ ap (λ r. lengths_then r (prices_of 2 (lines_of (drop next text)))) first
     ∙ ap (lengths_then (Ok lengths)) others
+
+-- a text whose first line has no run lengths
+pub told_flawed : (text : List ℕ) (end next : ℕ) → FirstLine text 0 end next → (flaw : Flaw) → run_lengths_of (take (end - 0) text) ≡ Err flaw → told text ≡ Err (problem 1 flaw)
+told_flawed text end next line flaw first =
+    ap told_by line.splits.1
+    ∙ ap (λ t. lengths_then (run_lengths_of t) (prices_of 2 (lines_of (drop next text)))) line.splits.2
+    ∙ ap (λ r. lengths_then r (prices_of 2 (lines_of (drop next text)))) first

@@ -5,12 +5,12 @@ use Rattle.price_line.specs.Prices.{hundredths_of, together, largest}
 use Rattle.price_line.proofs.Amounts.{read_amount}
 use Rattle.price_line.proofs.price.amount.Goals as goal
 
-pub returns-in-default : goal.returns-in-default
-returns-in-default c =
+pub returns-in_default : goal.returns-in_default
+returns-in_default c =
     let text = c.args.text.now in
     let digits = c.leading_digits-count.result in
     let whole = read_amount text digits.count digits.number c.hundredths.result c.leading_digits-count.ensures (omega arith) (c.hundredths.ensures ∙ ap hundredths_of (take_rest text digits.count)) in
-    sym (ap (together digits.number) c.in-default.is) ∙ whole
+    sym (ap (together digits.number) c.in_default.is) ∙ whole
 
 pub returns-then-amount : goal.returns-then-amount
 returns-then-amount c =

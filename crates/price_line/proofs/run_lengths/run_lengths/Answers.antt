@@ -1,9 +1,9 @@
-use Rattle.std.proofs.Common.{◌≡◌, ℕ, ◌+◌, ◌-◌, List, [], ◌∷◌, ◌++◌, length, take, drop, Ok, Err, Result, sym, ap, ◌∙◌, arith}
+use Rattle.std.proofs.Common.{◌≡◌, ℕ, ◌+◌, ◌-◌, List, [], ◌∷◌, ◌++◌, take, drop, Ok, Err, Result, sym, ap, ◌∙◌, arith}
 use Rattle.std.proofs.lemmas.List.{take_rest, take_all, take_more_set, length-set, length-drop, drop-drop}
 use Rattle.std.proofs.lemmas.Result.{err_from_is_err_and}
 use Rattle.std.proofs.lemmas.Bool.{cond-true}
 use Rattle.price_line.specs.declared.flaw.Flaw.{Flaw}
-use Rattle.price_line.specs.RunLengths.{says_runs, field_of, fields_of}
+use Rattle.price_line.specs.RunLengths.{says_runs, field_of, fields_of, run_lengths_of}
 use Rattle.price_line.proofs.Fields.{before, field_inside, one_more, stopped, left_over, all_read}
 use Rattle.price_line.proofs.run_lengths.run_lengths.Goals as goal
 
@@ -15,7 +15,7 @@ returns-in_err-length c =
     let p = err_from_is_err_and c.from_residual.result c.from_residual.ensures.1 in
     let err : Flaw → Result (List ℕ) Flaw = λ f. Err f in
     let is : field_of text ≡ Err c.in_err-length.field-0.0 = sym (c.leading_field.ensures ∙ ap field_of (take_rest line c.loop-regime.at)) ∙ c.in_err-length.was in
-    let whole = cond-true (says_runs line) (fields_of 8 (drop 4 line)) _ (sym c.if-not-says_runs.ensures.is) in
+    let whole : run_lengths_of line ≡ fields_of 8 (drop 4 line) = cond-true (says_runs line) _ _ (sym c.if-not-says_runs.ensures.is) in
     p.1 ∙ ap err p.2 ∙ sym (whole ∙ sym c.loop-regime.invariant.2 ∙ stopped (take i c.loop-regime.lengths) (8 - i) (7 - i) text (omega arith) c.in_err-length.field-0.0 is)
 
 pub overflow_add-at : goal.overflow_add-at
@@ -49,7 +49,7 @@ returns-then-at-line c =
     let line = c.args.line.now in
     let at = c.loop-regime.at in
     let read = take c.loop-regime.regime c.loop-regime.lengths in
-    let whole = cond-true (says_runs line) (fields_of 8 (drop 4 line)) _ (sym c.if-not-says_runs.ensures.is) in
+    let whole : run_lengths_of line ≡ fields_of 8 (drop 4 line) = cond-true (says_runs line) _ _ (sym c.if-not-says_runs.ensures.is) in
     let none : 8 - c.loop-regime.regime ≡ 0 = omega arith in
     sym (whole ∙ sym c.loop-regime.invariant.2 ∙ ap (λ n. before read (fields_of n (drop at line))) none ∙ left_over read (drop at line) (omega (arith, length-drop at line)))
 
@@ -59,7 +59,7 @@ returns c =
     let at = c.loop-regime.at in
     let lengths = c.loop-regime.lengths in
     let read = take c.loop-regime.regime lengths in
-    let whole = cond-true (says_runs line) (fields_of 8 (drop 4 line)) _ (sym c.if-not-says_runs.ensures.is) in
+    let whole : run_lengths_of line ≡ fields_of 8 (drop 4 line) = cond-true (says_runs line) _ _ (sym c.if-not-says_runs.ensures.is) in
     let none : 8 - c.loop-regime.regime ≡ 0 = omega arith in
     let ok : List ℕ → Result (List ℕ) Flaw = λ xs. Ok xs in
     sym (whole ∙ sym c.loop-regime.invariant.2 ∙ ap (λ n. before read (fields_of n (drop at line))) none ∙ all_read read (drop at line) (omega (arith, length-drop at line)) ∙ ap ok (take_all c.loop-regime.regime lengths (omega (arith, c.loop-regime.invariant.1))))

@@ -3,13 +3,18 @@ use Rattle.std.proofs.lemmas.List.{nil_from_length}
 use Rattle.std.proofs.lemmas.Bool.{or_from, ne_eqb, eqb-true}
 use Rattle.price_rule.specs.Prices.{is_year}
 use Rattle.price_text.specs.Texts.{told}
-use Rattle.price_text.proofs.Reading.{told_all}
+use Rattle.price_text.proofs.Reading.{told_all, told_flawed}
 use Rattle.price_text.proofs.text.read_text.Goals as goal
 
 pub returns-then-is_empty : goal.returns-then-is_empty
 returns-then-is_empty c =
     let text = c.args.text.now in
     ap told (nil_from_length text (eqb-true (length text) 0 (sym c.if-is_empty.ensures)))
+
+pub returns-in-Err : goal.returns-in-Err
+returns-in-Err c =
+    let line = c.line_from-end.result in
+    told_flawed c.args.text.now line.end line.next c.line_from-end.ensures c.in-Err.flaw (sym c.run_lengths.ensures ∙ c.in-Err.is)
 
 pub returns-then-count-ne-LEAP_YEAR : goal.returns-then-count-ne-LEAP_YEAR
 returns-then-count-ne-LEAP_YEAR c =
