@@ -3,5 +3,6 @@
 
 mod accounts;
 mod drafts;
+#[cfg(test)]
 pub mod expected;
 mod layers;

@@ -1,6 +1,8 @@
 // settle, run on a site with a store under the delimitation option.
 #![tactic(auto)]
 
-fn main(rt: HostRuntime) -> anyhow::Result<()> {
+use std::process::ExitCode;
+
+fn main(rt: HostRuntime) -> anyhow::Result<ExitCode> {
     terminal::settle(rt)
 }

@@ -1,6 +1,8 @@
 // settle, run on a whole leap year of eight plants.
 #![tactic(auto)]
 
-fn main(rt: HostRuntime) -> anyhow::Result<()> {
+use std::process::ExitCode;
+
+fn main(rt: HostRuntime) -> anyhow::Result<ExitCode> {
     terminal::settle(rt)
 }

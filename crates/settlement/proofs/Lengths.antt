@@ -10,7 +10,7 @@ use Rattle.tagged_file.specs.declared.record.Tag.TheVariants as tags
 use Rattle.tagged_file.specs.Spelling.{Placed, Ending, Spells, no_record, out_of_order, one_more, past_end, at_end}
 use Rattle.file_account.specs.declared.chosen.Chosen.{Chosen}
 use Rattle.file_account.specs.declared.chosen.Chosen.TheVariants as chosen
-use Rattle.settlement.specs.Files.{PutInTurn, ComesTo}
+use Rattle.settlement.specs.Spelled.{PutInTurn, FileSettlesTo}
 use Rattle.settlement.specs.Longest.{Bounded, longest_file}
 use Rattle.settlement.proofs.Allowing.{bounded_most, taken_bounded}
 
@@ -27,5 +27,5 @@ module _ (table : PublishedTable) (file : List ℕ) (statement : Statement) wher
       let fits = decoded_fits p (drop p file) tags.End content n (sym here.is) in
       omega (arith, bounded_most o s p bounded, alone, length-drop p file, fits.size, eqb-true _ _ fits.long)
 
-  pub longest : ComesTo table file (Ok statement) → length file ≤ longest_file
+  pub longest : FileSettlesTo table file (Ok statement) → length file ≤ longest_file
   longest to = from_here to.comes.spells chosen.None to.comes.outcome (record { unbegun = λ early. refl; bytes = omega arith })

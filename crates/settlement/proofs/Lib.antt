@@ -4,4 +4,5 @@ pub mod Lengths
 pub mod Outcomes
 pub mod Reading
 pub mod Stepping
+pub mod Turning
 pub mod Tested

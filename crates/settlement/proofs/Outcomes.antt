@@ -18,11 +18,11 @@ use Rattle.tagged_file.proofs.SpelledOnce.{once}
 use Rattle.file_account.specs.declared.chosen.Chosen.{Chosen}
 use Rattle.file_account.specs.declared.chosen.Chosen.TheVariants as chosen
 use Rattle.file_account.specs.Choosing.{ChosenPuts, ChosenSettles}
-use Rattle.settlement.specs.Files.{Comes, ComesTo}
+use Rattle.settlement.specs.Spelled.{SettlesTo, FileSettlesTo}
 
 module _ (table : PublishedTable) (file : List ℕ) where
   -- from the first byte on
-  pub from_start : (o : Order) (out : Result Statement Fault) → AtStart o → Comes table file 0 o chosen.None out → ComesTo table file out
+  pub from_start : (o : Order) (out : Result Statement Fault) → AtStart o → SettlesTo table file 0 o chosen.None out → FileSettlesTo table file out
   from_start o out start comes = record {
     order = o;
     start = start;
@@ -31,16 +31,16 @@ module _ (table : PublishedTable) (file : List ℕ) where
   }
 
   -- the bytes there are no record
-  pub unreadable : (p : ℕ) (o : Order) (s : Chosen) (f : Fault) → decoded p (drop p file) ≡ Err f → Comes table file p o s (Err f)
+  pub unreadable : (p : ℕ) (o : Order) (s : Chosen) (f : Fault) → decoded p (drop p file) ≡ Err f → SettlesTo table file p o s (Err f)
   unreadable p o s f e = record { records = []; ending = broken_off f; spells = no_record e; outcome = refl }
 
   -- the record there may not stand there
-  pub misplaced : (p n : ℕ) (o o' : Order) (s : Chosen) (f : Fault) (tag : Tag) (content : List ℕ) → decoded p (drop p file) ≡ Ok (Some tag, content, n) → Follows o tag p (Err f) o' → Comes table file p o s (Err f)
+  pub misplaced : (p n : ℕ) (o o' : Order) (s : Chosen) (f : Fault) (tag : Tag) (content : List ℕ) → decoded p (drop p file) ≡ Ok (Some tag, content, n) → Follows o tag p (Err f) o' → SettlesTo table file p o s (Err f)
   misplaced p n o o' s f tag content e follows = record { records = []; ending = broken_off f; spells = out_of_order o' e follows; outcome = refl }
 
   module _ (p n : ℕ) (o o' : Order) (s : Chosen) where
     -- the account refuses the record, whatever the file spells after it
-    pub refused : (tag : Tag) (content : List ℕ) (f : Fault) → StandsHere file p o tag content n o' → (tag ≡ tags.End → ⊥) → ChosenPuts table_calendar table s tag content (Err f) → Comes table file p o s (Err (fault f.cause p))
+    pub refused : (tag : Tag) (content : List ℕ) (f : Fault) → StandsHere file p o tag content n o' → (tag ≡ tags.End → ⊥) → ChosenPuts table_calendar table s tag content (Err f) → SettlesTo table file p o s (Err (fault f.cause p))
     refused tag content f here no_end puts =
         let rest = spelled file (p + n) o' in
         let r : Placed = record { offset = p; tag = tag; content = content; size = n } in
@@ -48,18 +48,18 @@ module _ (table : PublishedTable) (file : List ℕ) where
 
     -- the account takes the record, and the file goes on after it
     pub goes_on : (t : Chosen) (tag : Tag) (content : List ℕ) (out : Result Statement Fault) → StandsHere file p o tag content n o' → (tag ≡ tags.End → ⊥) → ChosenPuts table_calendar table s tag content (Ok t)
-        → Comes table file (p + n) o' t out → Comes table file p o s out
+        → SettlesTo table file (p + n) o' t out → SettlesTo table file p o s out
     goes_on t tag content out here no_end puts comes =
         let r : Placed = record { offset = p; tag = tag; content = content; size = n } in
         record { records = r ∷ comes.records; ending = comes.ending; spells = one_more here no_end comes.spells; outcome = inl (t, puts, comes.outcome) }
 
     -- something follows the end
-    pub too_long : (content : List ℕ) → StandsHere file p o tags.End content n o' → n < length (drop p file) → Comes table file p o s (Err (fault BytesAfterEnd (p + n)))
+    pub too_long : (content : List ℕ) → StandsHere file p o tags.End content n o' → n < length (drop p file) → SettlesTo table file p o s (Err (fault BytesAfterEnd (p + n)))
     too_long content here more = record { records = []; ending = broken_off (fault BytesAfterEnd (p + n)); spells = past_end here more; outcome = refl }
 
     -- the account gives no statement at the end
-    pub unsettled : (content : List ℕ) (f : Fault) (after : Statement) → StandsHere file p o tags.End content n o' → length (drop p file) ≤ n → ChosenSettles s (Err f) blank after → Comes table file p o s (Err (fault f.cause p))
+    pub unsettled : (content : List ℕ) (f : Fault) (after : Statement) → StandsHere file p o tags.End content n o' → length (drop p file) ≤ n → ChosenSettles s (Err f) blank after → SettlesTo table file p o s (Err (fault f.cause p))
     unsettled content f after here none settles = record { records = []; ending = ended p; spells = at_end here none; outcome = (f, after, settles, refl) }
 
-    pub settled_at_end : (content : List ℕ) (statement : Statement) → StandsHere file p o tags.End content n o' → length (drop p file) ≤ n → ChosenSettles s (Ok tt) blank statement → Comes table file p o s (Ok statement)
+    pub settled_at_end : (content : List ℕ) (statement : Statement) → StandsHere file p o tags.End content n o' → length (drop p file) ≤ n → ChosenSettles s (Ok tt) blank statement → SettlesTo table file p o s (Ok statement)
     settled_at_end content statement here none settles = record { records = []; ending = ended p; spells = at_end here none; outcome = settles }

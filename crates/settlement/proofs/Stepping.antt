@@ -23,10 +23,10 @@ use Rattle.settlement.specs.declared.settlement.Outcome.{Outcome}
 use Rattle.settlement.specs.declared.settlement.Outcome.TheVariants.{Open, Settled, Refused}
 use Rattle.settlement.specs.declared.settlement.Settlement.{Settlement}
 use Rattle.file_account.specs.Choosing.{ChosenPuts}
-use Rattle.settlement.specs.Files.{Comes}
+use Rattle.settlement.specs.Spelled.{SettlesTo}
 use Rattle.settlement.specs.Longest.{Bounded, BoundedHere, came_in}
 use Rattle.settlement.specs.Progress.{open_still}
-use Rattle.settlement.specs.Settling.{ComesHere, Onward, StepIn, StepsOn, Ends, EndsIn}
+use Rattle.settlement.specs.Settling.{Known, by_length, by_records, Told, ComesHere, Onward, StepIn, StepsOn, Ends, EndsIn}
 use Rattle.settlement.proofs.Allowing.{bounded_most, taken_bounded}
 use Rattle.settlement.proofs.Outcomes.{refused, goes_on, too_long, unsettled, settled_at_end}
 use Rattle.settlement.proofs.Tested.{when_so, when_else}
@@ -51,13 +51,18 @@ refused_step s t r f err table finished comes = record {
   table = table;
   finished = finished;
   grows = λ ok. absurd (let z : ◌≡◌ {A = ℕ} 0 1 = cc in omega arith);
-  steps = λ file rest stands bounded there still. subst (λ q. StepIn file rest s q t) (sym err) (comes file rest stands there);
+  steps = λ known file rest stands told there still. subst (λ q. StepIn file rest s q t) (sym err) (comes file rest stands there);
 }
 
 -- no offset in a bounded file comes near the largest that can be told
-pub told : (s : Settlement) → BoundedHere s → came_in s ≤ most_offset
-told s bounded =
+bounded_told : (s : Settlement) → BoundedHere s → came_in s ≤ most_offset
+bounded_told s bounded =
     omega (arith, bounded_most s.order s.chosen s.window.offset bounded, length_part_le s.window.bytes s.window.start s.window.end, s.window.within)
+
+-- where something is held, an offset can tell where it ends
+told : (known : Known) (file rest : List ℕ) (s : Settlement) → Stands file s.window rest → Told known file s → 0 < length (pending s.window) → came_in s ≤ most_offset
+told by_length file rest s stands fits some = omega (arith, ap length stands.on, length-append (pending s.window) rest, length-drop s.window.offset file)
+told by_records file rest s stands bounded some = bounded_told s bounded
 
 module _ (s : Settlement) (tag : Tag) (content : List ℕ) (n : ℕ) (o' : Order) (whole : AnswersForFile s.window (Ok (Some tag, content, n))) where
   here : Follows s.order tag s.window.offset (Ok tt) o' → (file rest : List ℕ) → Stands file s.window rest → ready s.window ≡ true
@@ -76,23 +81,24 @@ module _ (s : Settlement) (tag : Tag) (content : List ℕ) (n : ℕ) (o' : Order
     finished = passed.finished;
     grows = λ ok bounded still.
         let bound : Bounded o' ch (s.window.offset + n) = taken_bounded table_calendar s.table content s.order o' s.chosen ch tag s.window.offset s.window.offset n follows fits size no_end puts bounded in
-        let a : Bounded o' ch t.window.offset = subst (Bounded o' ch) (sym (on bounded)) bound in
+        let a : Bounded o' ch t.window.offset = subst (Bounded o' ch) (sym (on (bounded_told s bounded))) bound in
         let b : Bounded t.order ch t.window.offset = subst (λ x. Bounded x ch t.window.offset) (sym order) a in
-        (subst (λ x. Bounded t.order x t.window.offset) (sym chosen) b, omega (arith, on bounded, ap length passed.held, length-drop n (pending s.window), held));
-    steps = λ file rest stands bounded there still.
+        (subst (λ x. Bounded t.order x t.window.offset) (sym chosen) b, omega (arith, on (bounded_told s bounded), ap length passed.held, length-drop n (pending s.window), held));
+    steps = λ known file rest stands fits_file there still.
+        let near = told known file rest s stands fits_file (omega (arith, size, held)) in
         subst (λ q. Onward file rest s t q) (sym (outcome ∙ still)) (
-          stood file rest (told s bounded) stands,
+          stood file rest near stands,
           λ out comes.
-              let a : Comes s.table file t.window.offset t.order t.chosen out = subst (λ x. Comes x file t.window.offset t.order t.chosen out) table comes in
-              let b : Comes s.table file (s.window.offset + n) t.order t.chosen out = subst (λ x. Comes s.table file x t.order t.chosen out) (on bounded) a in
-              let d : Comes s.table file (s.window.offset + n) o' t.chosen out = subst (λ x. Comes s.table file (s.window.offset + n) x t.chosen out) order b in
-              let e : Comes s.table file (s.window.offset + n) o' ch out = subst (λ x. Comes s.table file (s.window.offset + n) o' x out) chosen d in
+              let a : SettlesTo s.table file t.window.offset t.order t.chosen out = subst (λ x. SettlesTo x file t.window.offset t.order t.chosen out) table comes in
+              let b : SettlesTo s.table file (s.window.offset + n) t.order t.chosen out = subst (λ x. SettlesTo s.table file x t.order t.chosen out) (on near) a in
+              let d : SettlesTo s.table file (s.window.offset + n) o' t.chosen out = subst (λ x. SettlesTo s.table file (s.window.offset + n) x t.chosen out) order b in
+              let e : SettlesTo s.table file (s.window.offset + n) o' ch out = subst (λ x. SettlesTo s.table file (s.window.offset + n) o' x out) chosen d in
               goes_on s.table file s.window.offset n s.order o' s.chosen ch tag content out (here follows file rest stands there) no_end puts e,
         );
   }
     where
-      on : BoundedHere s → t.window.offset ≡ s.window.offset + n
-      on bounded = omega (arith, passed.offset, told s bounded, held)
+      on : came_in s ≤ most_offset → t.window.offset ≡ s.window.offset + n
+      on near = omega (arith, passed.offset, near, held)
 
 -- a window that is ready and holds less than the longest record has all that is left
 finished_when : (w : Window) → ready w ≡ true → length (pending w) < 1027 → w.finished ≡ true
@@ -126,14 +132,15 @@ end_step s u t content n r table window chosen ends three held follows whole = r
       (λ more. absurd (let h = when_so _ _ _ more ends.answer in let z : ◌≡◌ {A = ℕ} 0 1 = cc in omega arith))
       (λ none. absurd (ended u.chosen s.window.offset t.outcome (subst (λ q. EndsIn u.chosen s.window.offset q t.outcome) ok (when_else _ _ _ none ends.answer)) still))
       (cases_Bool (ltb n (length (pending u.window))));
-  steps = λ file rest stands bounded there still.
+  steps = λ known file rest stands fits there still.
       let p = s.window.offset in
+      let near = told known file rest s stands fits (omega (arith, three, held)) in
       let here : StandsHere file p s.order tags.End content n u.order = record { is = sym (whole file rest stands there); allowed = follows } in
       let same : length (pending u.window) ≡ length (pending s.window) = ap (λ w. length (pending w)) window in
       ⊎_elim
       (λ more.
       let longer : n < length (drop p file) = omega (arith, ltb-true n (length (pending u.window)) more, same, ap length stands.on, length-append (pending s.window) rest) in
-      let place : min (p + n) most_offset ≡ p + n = omega (arith, told s bounded, held) in
+      let place : min (p + n) most_offset ≡ p + n = omega (arith, near, held) in
       let refusal : ℕ → Answer = λ q. Err (fault BytesAfterEnd q) in
       subst (λ q. StepIn file rest s q t) (sym (when_so _ _ _ more ends.answer ∙ ap refusal place)) (too_long s.table file p n s.order u.order s.chosen content here longer))
       (λ none.

@@ -1,42 +1,43 @@
--- What a file comes to: the records that its bytes spell, put to the account in turn. Assumes nothing.
-use Rattle.std.specs.Prelude.{◌≡◌, ℕ, ◌⊎◌, List, [], ◌∷◌, Ok, Err, Result}
+-- What a file comes to: its records, one after the other, put to the account. Assumes nothing.
+use Rattle.std.specs.Prelude.{◌≡◌, ℕ, ◌+◌, ◌<◌, ◌≤◌, List, length, drop, Some, Ok, Err, Result, ◌≢◌}
 use Rattle.fault.specs.declared.Fault.{Fault}
+use Rattle.fault.specs.declared.cause.Cause.TheVariants.{BytesAfterEnd}
 use Rattle.fault.specs.Questions.{fault}
 use Rattle.calendar.specs.contracts.published_table.PublishedTableValueCalendar.TheImpl.{ghosts as table_calendar}
 use Rattle.calendar.specs.declared.published_table.PublishedTable.{PublishedTable}
 use Rattle.statement.specs.declared.Statement.{Statement}
 use Rattle.statement.specs.Lines.{blank}
 use Rattle.tagged_file.specs.declared.order.Order.{Order}
-use Rattle.tagged_file.specs.Follows.{AtStart}
-use Rattle.tagged_file.specs.Spelling.{Placed, Ending, ended, broken_off, Spells}
+use Rattle.tagged_file.specs.declared.record.Tag.{Tag}
+use Rattle.tagged_file.specs.declared.record.Tag.TheVariants as tags
+use Rattle.tagged_file.specs.Decoded.{decoded}
+use Rattle.tagged_file.specs.Follows.{AtStart, Follows}
+use Rattle.tagged_file.specs.Spelling.{StandsHere}
 use Rattle.file_account.specs.declared.chosen.Chosen.{Chosen}
 use Rattle.file_account.specs.declared.chosen.Chosen.TheVariants as chosen
 use Rattle.file_account.specs.Choosing.{ChosenPuts, ChosenSettles}
 
--- the outcome at the end of the records: the file's refusal, or the account's statement, or its refusal of one, at the end record's offset
-abbrev pub EndsWith : Ending → Chosen → Result Statement Fault → Type 0
-EndsWith (broken_off f) s out = out ≡ Err f
-EndsWith (ended p) s (Ok statement) = ChosenSettles s (Ok tt) blank statement
-EndsWith (ended p) s (Err g) = (f : Fault) × (after : Statement) × ChosenSettles s (Err f) blank after × (g ≡ fault f.cause p)
+module _ (table : PublishedTable) (file : List ℕ) where
+  -- from an offset on, with this order and this account, the file comes to this statement or this refusal
+  pub data Comes : ℕ → Order → Chosen → Result Statement Fault → Type 0 where
+    -- the bytes there are no record
+    unreadable : {p : ℕ} {o : Order} {s : Chosen} {f : Fault} → decoded p (drop p file) ≡ Err f → Comes p o s (Err f)
+    -- the record there may not stand there
+    misplaced : {p n : ℕ} {o : Order} {s : Chosen} {f : Fault} {tag : Tag} {content : List ℕ} (o' : Order) → decoded p (drop p file) ≡ Ok (Some tag, content, n) → Follows o tag p (Err f) o' → Comes p o s (Err f)
+    -- the account refuses the record: its fault gets the record's offset as its place
+    refused : {p n : ℕ} {o o' : Order} {s : Chosen} {tag : Tag} {content : List ℕ} (f : Fault) → StandsHere file p o tag content n o' → (tag ≢ tags.End)
+        → ChosenPuts table_calendar table s tag content (Err f) → Comes p o s (Err (fault f.cause p))
+    -- the account takes the record, and the file goes on after it
+    goes_on : {p n : ℕ} {o o' : Order} {s t : Chosen} {tag : Tag} {content : List ℕ} {out : Result Statement Fault} → StandsHere file p o tag content n o' → (tag ≢ tags.End)
+        → ChosenPuts table_calendar table s tag content (Ok t) → Comes (p + n) o' t out → Comes p o s out
+    -- something follows the end
+    too_long : {p n : ℕ} {o o' : Order} {s : Chosen} {content : List ℕ} → StandsHere file p o tags.End content n o' → n < length (drop p file) → Comes p o s (Err (fault BytesAfterEnd (p + n)))
+    -- the account gives no statement at the end
+    unsettled : {p n : ℕ} {o o' : Order} {s : Chosen} {content : List ℕ} (f : Fault) (after : Statement) → StandsHere file p o tags.End content n o' → length (drop p file) ≤ n
+        → ChosenSettles s (Err f) blank after → Comes p o s (Err (fault f.cause p))
+    settled_at_end : {p n : ℕ} {o o' : Order} {s : Chosen} {statement : Statement} {content : List ℕ} → StandsHere file p o tags.End content n o' → length (drop p file) ≤ n
+        → ChosenSettles s (Ok tt) blank statement → Comes p o s (Ok statement)
 
-module _ (table : PublishedTable) where
-  -- the records put to the account one after the other: the first that it refuses decides, at its own offset; if it takes them all, the ending does
-  abbrev pub PutInTurn : List Placed → Ending → Chosen → Result Statement Fault → Type 0
-  PutInTurn [] ending s out = EndsWith ending s out
-  PutInTurn (r ∷ more) ending s out =
-      ((t : Chosen) × ChosenPuts table_calendar table s r.tag r.content (Ok t) × PutInTurn more ending t out)
-      ⊎ ((f : Fault) × ChosenPuts table_calendar table s r.tag r.content (Err f) × (out ≡ Err (fault f.cause r.offset)))
-
-  -- what a file comes to from an offset on, with this order and this account
-  pub record Comes (file : List ℕ) (p : ℕ) (o : Order) (s : Chosen) (out : Result Statement Fault) : Type 0 where
-    pub records : List Placed
-    pub ending : Ending
-    pub spells : Spells file p o records ending
-    pub outcome : PutInTurn records ending s out
-
-  -- what the whole file comes to, from its first byte and no account on; it spells these records and no others
-  pub record ComesTo (file : List ℕ) (out : Result Statement Fault) : Type 0 where
-    pub order : Order
-    pub start : AtStart order
-    pub comes : Comes file 0 order chosen.None out
-    pub only : (o : Order) → AtStart o → (records : List Placed) (ending : Ending) → Spells file 0 o records ending → (records ≡ comes.records) × (ending ≡ comes.ending)
+  -- what the whole file comes to, from its first byte and no account on
+  abbrev pub ComesTo : Result Statement Fault → Type 0
+  ComesTo out = (o : Order) × AtStart o × Comes 0 o chosen.None out

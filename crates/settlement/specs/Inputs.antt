@@ -3,7 +3,7 @@ use Rattle.std.specs.Prelude.{◌≡◌, ℕ, ◌<◌, ◌≤◌, ◌⊎◌, Lis
 use Rattle.fault.specs.declared.Fault.{Fault}
 use Rattle.calendar.specs.declared.published_table.PublishedTable.{PublishedTable}
 use Rattle.statement.specs.declared.Statement.{Statement}
-use Rattle.settlement.specs.Files.{ComesTo}
+use Rattle.settlement.specs.Spelled.{FileSettlesTo}
 use Rattle.settlement.specs.Longest.{longest_file}
 
 -- `brings input file`: what is still to come from the input is this file
@@ -20,9 +20,9 @@ module _ {I : Type 0} (brings : I → List ℕ → Type 0) where
     pub rest : List ℕ
     pub parts : file ≡ read ++ rest
     pub left : brings after rest
-    pub comes : ComesTo table file out
+    pub comes : FileSettlesTo table file out
     pub long : (statement : Statement) → out ≡ Ok statement → length file ≤ longest_file
-    pub stops : (rest ≡ []) ⊎ ((other : List ℕ) → ComesTo table (read ++ other) out)
+    pub stops : (rest ≡ []) ⊎ ((other : List ℕ) → FileSettlesTo table (read ++ other) out)
 
   -- the outcome is what every file comes to that the input can bring
   abbrev pub SettlesInput : PublishedTable → I → Result Statement Fault → I → Type 0

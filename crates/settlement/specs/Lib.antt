@@ -1,6 +1,6 @@
 pub mod Progress
 pub mod Files
-pub mod Turns
+pub mod Spelled
 pub mod Longest
 pub mod Settling
 pub mod Inputs

@@ -1,6 +1,7 @@
 // Bytes that are at hand, as an input that brings them piece by piece.
 ghost use Rattle.std.specs.Prelude.{◌≡◌};
 ghost use Rattle.settlement.specs.Files.{ComesTo};
+ghost use Rattle.settlement.specs.Spelled.{FileSettlesTo};
 
 use crate::input::Input;
 use crate::whole_file::settle;
@@ -44,7 +45,8 @@ pub fn settle_bytes(
     bytes: &[u8],
     size: usize,
 ) -> Result<Statement, Fault>
-    ensures { ComesTo table.entry bytes.now result }
+    ensures spelled { FileSettlesTo table.entry bytes.now result }
+    ensures in_turn { ComesTo table.entry bytes.now result }
 {
     let Ok(outcome) = settle(table, &mut Pieces::new(bytes, size));
     outcome

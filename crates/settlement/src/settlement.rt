@@ -1,7 +1,7 @@
 // A file being settled: pieces of it come in, and each record is put to the account once it is held whole.
 ghost use Rattle.std.specs.Prelude.{◌≡◌};
 ghost use Rattle.settlement.specs.Progress.{open_still, Steps};
-ghost use Rattle.settlement.specs.Settling.{StepsOn, Ends, Keeps, WantsMore, StartsIn, TakesPiece, AnswersFor};
+ghost use Rattle.settlement.specs.Settling.{StepsOn, Ends, Keeps, WantsMore, StartsInAny, TakesAnyPiece, AnswersForAny, StartsIn, TakesPiece, AnswersFor};
 
 use calendar::published_table::PublishedTable;
 use fault::Fault;
@@ -32,7 +32,8 @@ pub struct Settlement<'t> {
 
 impl<'t> Settlement<'t> {
     pub fn new(table: PublishedTable<'t>) -> Settlement<'t>
-        ensures { StartsIn table.entry result }
+        ensures any { StartsInAny table.entry result }
+        ensures told { StartsIn table.entry result }
     {
         Settlement {
             table,
@@ -52,7 +53,8 @@ impl<'t> Settlement<'t> {
 
     // Takes in the next piece of the file. What is held whole is settled first, so that there is room.
     pub fn feed(&mut self, piece: &[u8])
-        ensures { TakesPiece self.old piece.now self.new }
+        ensures any { TakesAnyPiece self.old piece.now self.new }
+        ensures told { TakesPiece self.old piece.now self.new }
     {
         let mut rest = piece;
         while self.is_open() && !rest.is_empty() {
@@ -64,7 +66,8 @@ impl<'t> Settlement<'t> {
 
     // The file has no more: what it comes to.
     pub fn finish(mut self) -> Result<Statement, Fault>
-        ensures { AnswersFor self.entry result }
+        ensures any { AnswersForAny self.entry result }
+        ensures told { AnswersFor self.entry result }
     {
         self.window.finish();
         self.advance();

@@ -11,7 +11,7 @@ use Rattle.tagged_file.specs.declared.record.Tag.TheVariants as tags
 use Rattle.tagged_file.specs.declared.record.Record.{Record}
 use Rattle.tagged_file.specs.Format.{header_bytes, most_remark, longest_bytes, tag_of, right, tag_in, content_in}
 use Rattle.tagged_file.specs.Numbers.{byte_at}
-use Rattle.tagged_file.specs.Decoded.{tag_here, length_here, size_here, content_here, right_for, questions, Decoded, decoded, seen, Fits, AnyFits}
+use Rattle.tagged_file.specs.Decoded.{tag_here, length_here, size_here, content_here, right_for, questions, Decoded, decoded, seen, FitsAs, AnyFits}
 
 -- no content is longer than that of a remark
 right_le : (t : Tag) (n : ℕ) → right t n ≡ true → n ≤ most_remark
@@ -38,7 +38,7 @@ asked_ok p ((true, c) ∷ qs) x y e = let on = asked_ok p qs x y e in ((refl, on
 asked_ok p ((false, c) ∷ qs) x y e = absurd (let z : ◌≡◌ {A = ℕ} 0 1 = cc in omega arith)
 
 -- a record that stands in some bytes fits
-pub decoded_fits : (p : ℕ) (bs : List ℕ) (tag : Tag) (content : List ℕ) (n : ℕ) → Ok (Some tag, content, n) ≡ decoded p bs → Fits bs tag content n
+pub decoded_fits : (p : ℕ) (bs : List ℕ) (tag : Tag) (content : List ℕ) (n : ℕ) → Ok (Some tag, content, n) ≡ decoded p bs → FitsAs bs tag content n
 decoded_fits p bs tag content n e =
     let on = asked_ok p (questions bs) (tag_here bs, content_here bs, size_here bs) (Some tag, content, n) e in
     let takes : right tag (length_here bs) ≡ true = ap (λ x. right_for x.0 (length_here bs)) (sym on.1) ∙ on.0.1.1.0 in

@@ -53,13 +53,16 @@ seen (Ok a) = Ok (Some (tag_in a.0), content_in a.0, a.1)
 seen (Err f) = Err f
 
 -- a record of n bytes at the front of others: its content is as long as its tag asks, nothing but the header stands before it, it lies within the bytes, and no record is longer
-pub record Fits (bs : List ℕ) (tag : Tag) (content : List ℕ) (n : ℕ) : Type 0 where
+pub record FitsAs (bs : List ℕ) (tag : Tag) (content : List ℕ) (n : ℕ) : Type 0 where
   pub long : right tag (length content) ≡ true
   pub size : n ≡ header_bytes + length content
   pub within : n ≤ length bs
   pub longest : n ≤ longest_bytes
 
+abbrev pub Fits : List ℕ → Record → ℕ → Type 0
+Fits bs r n = FitsAs bs (tag_in r) (content_in r) n
+
 -- where an answer is a record, it fits
 abbrev pub AnyFits : List ℕ → Result (Record × ℕ) Fault → Type 0
-AnyFits bs (Ok a) = Fits bs (tag_in a.0) (content_in a.0) a.1
+AnyFits bs (Ok a) = Fits bs a.0 a.1
 AnyFits bs (Err f) = Unit {0}

@@ -5,34 +5,34 @@
 mod standard_input;
 
 use crate::standard_input::StandardInput;
-use anyhow::anyhow;
 use calendar::published_table::PublishedTable;
 use settlement::whole_file;
 use std::fs;
+use std::process::ExitCode;
 
 const TABLE: &str = "calendar.bin";
 
-pub fn settle(rt: HostRuntime) -> anyhow::Result<()> {
+pub fn settle(rt: HostRuntime) -> anyhow::Result<ExitCode> {
     let table = match fs::read(&rt, TABLE) {
         Ok(table) => table,
         Err(error) => {
             eprintln!(rt; "settle: {TABLE}: {error}")?;
-            return Err(anyhow!("no table"));
+            return Ok(ExitCode::FAILURE);
         }
     };
     let mut input = StandardInput { stdin: rt.stdin() };
     match whole_file::settle(PublishedTable::new(&table), &mut input) {
         Ok(Ok(statement)) => {
             print!(rt; "{statement}")?;
-            Ok(())
+            Ok(ExitCode::SUCCESS)
         }
         Ok(Err(fault)) => {
             println!(rt; "{fault}")?;
-            Err(anyhow!("refused"))
+            Ok(ExitCode::FAILURE)
         }
         Err(error) => {
             eprintln!(rt; "settle: standard input: {error}")?;
-            Err(anyhow!("no input"))
+            Ok(ExitCode::FAILURE)
         }
     }
 }

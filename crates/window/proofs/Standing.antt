@@ -6,7 +6,8 @@ use Rattle.window.specs.declared.Window.{Window}
 use Rattle.tagged_file.specs.Decoded.{Decoded, decoded}
 use Rattle.tagged_file.specs.Format.{longest_bytes}
 use Rattle.window.specs.Held.{pending, ready, Fed, Passed}
-use Rattle.window.specs.Standing.{StandsOn, StandsPast, AnswersForFile}
+use Rattle.window.specs.Limits.{most_offset}
+use Rattle.window.specs.Standing.{StandsOn, StandsPast, StandsOnTold, AnswersForFile}
 use Rattle.tagged_file.proofs.Asked.{decoded_long}
 use Rattle.window.proofs.Parts.{drop_min}
 
@@ -29,6 +30,23 @@ stands_passed size w v p file rest told s =
           ∙ drop-append-le n (pending w) rest (omega arith)
           ∙ ap (λ l. l ++ rest) (drop_min size (length (pending w)) (pending w) (omega arith) ∙ sym p.held);
       over = λ e. s.over (sym p.finished ∙ e);
+    }
+
+-- the same in a file whose length an offset can tell: past the largest offset nothing is left of it
+pub told_passed : (size : ℕ) (w v : Window) → Passed w size v → StandsOnTold w [] v
+told_passed size w v p file rest s =
+    let n = min size (length (pending w)) in
+    record {
+      stands = record {
+        on = ap (λ k. drop k file) p.offset
+            ∙ drop_min (w.offset + n) most_offset file s.told
+            ∙ sym (drop-drop n w.offset file)
+            ∙ ap (drop n) s.stands.on
+            ∙ drop-append-le n (pending w) rest (omega arith)
+            ∙ ap (λ l. l ++ rest) (drop_min size (length (pending w)) (pending w) (omega arith) ∙ sym p.held);
+        over = λ e. s.stands.over (sym p.finished ∙ e);
+      };
+      told = s.told;
     }
 
 -- what a ready window holds says the same with what is still to come

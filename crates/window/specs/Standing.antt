@@ -22,6 +22,15 @@ StandsOn w came v = (file rest : List ℕ) → Stands file w (came ++ rest) → 
 abbrev pub StandsPast : Window → Window → Type 0
 StandsPast w v = (file rest : List ℕ) → w.offset + length (pending w) ≤ most_offset → Stands file w rest → Stands file v rest
 
+-- w stands in a file whose length an offset can tell
+pub record StandsTold (file : List ℕ) (w : Window) (rest : List ℕ) : Type 0 where
+  pub stands : Stands file w rest
+  pub told : length file ≤ most_offset
+
+-- where w stands in such a file, so does v, once these bytes came in
+abbrev pub StandsOnTold : Window → List ℕ → Window → Type 0
+StandsOnTold w came v = (file rest : List ℕ) → StandsTold file w (came ++ rest) → StandsTold file v rest
+
 -- where w stands in a file and nothing is still to come, so does v
 abbrev pub StandsAtEnd : Window → Window → Type 0
 StandsAtEnd w v = (file : List ℕ) → Stands file w [] → Stands file v []

@@ -1,7 +1,7 @@
 // Reading on through a window: pieces of the input come in at its end, and records are passed at its front.
-ghost use Rattle.std.specs.Prelude.{take};
+ghost use Rattle.std.specs.Prelude.{[], take};
 ghost use Rattle.window.specs.Held.{Fresh, Fed, Finished, Passed, Settled};
-ghost use Rattle.window.specs.Standing.{StandsAtStart, StandsOn, StandsPast, StandsAtEnd};
+ghost use Rattle.window.specs.Standing.{StandsAtStart, StandsOn, StandsPast, StandsOnTold, StandsAtEnd};
 
 use crate::{CAPACITY, Window};
 
@@ -54,6 +54,7 @@ impl Window {
     pub fn pass(&mut self, size: usize)
         ensures passed { Passed self.old size self.new }
         ensures stands { StandsPast self.old self.new }
+        ensures told { StandsOnTold self.old [] self.new }
     {
         let passed = size.min(self.held().len());
         self.start += passed;

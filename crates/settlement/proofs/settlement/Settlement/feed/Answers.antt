@@ -3,8 +3,9 @@ use Rattle.std.proofs.lemmas.List.{length-take-le}
 use Rattle.std.proofs.lemmas.Bool.{eqb-true}
 use Rattle.window.specs.Held.{pending}
 use Rattle.settlement.specs.declared.settlement.Settlement.{Settlement}
-use Rattle.settlement.specs.Settling.{InFile}
+use Rattle.settlement.specs.Settling.{StandsIn, TakesAnyPiece}
 use Rattle.settlement.proofs.Keeping.{decided, bounded_still, came_in_file, no_bytes, rest_of}
+use Rattle.settlement.proofs.Turning.{takes_told}
 use Rattle.settlement.proofs.settlement.Settlement.feed.Goals as goal
 
 pub loop-rest-preserved : goal.loop-rest-preserved
@@ -21,24 +22,29 @@ loop-rest-preserved c =
             bounded_still s t refl refl fed.offset after.0,
             omega (arith, before.1, after.1, fed.offset, ap length fed.held, length-append (pending s.window) (take n rest), length-take-le n rest within, ap length (rest_of rest n within), length-drop n rest),
           ),
-      λ table file more here.
-          let before : InFile table file (rest ++ more) s = c.advance.ensures.keeps.in_file table file (rest ++ more) (c.loop-rest.invariant.1 table file more here) in
+      λ known table file more here.
+          let before : StandsIn known table file (rest ++ more) s = c.advance.ensures.keeps.in_file known table file (rest ++ more) (c.loop-rest.invariant.1 known table file more here) in
           let parts : rest ++ more ≡ take n rest ++ (drop n rest ++ more) = ap (λ l. l ++ more) (sym (take-append-drop n rest)) ∙ append_assoc (take n rest) (drop n rest) more in
-          subst (λ l. InFile table file (l ++ more) t) (sym (rest_of rest n within))
-          (came_in_file s t (take n rest) refl refl refl refl fed.offset c.feed-taken.ensures.stands table file (drop n rest ++ more) (subst (λ l. InFile table file l s) parts before)),
+          subst (λ l. StandsIn known table file (l ++ more) t) (sym (rest_of rest n within))
+          (came_in_file s t (take n rest) refl refl refl refl fed.offset c.feed-taken.ensures.stands known table file (drop n rest ++ more) (subst (λ l. StandsIn known table file l s) parts before)),
     )
 
 pub returns-else-not-is_empty : goal.returns-else-not-is_empty
 returns-else-not-is_empty c =
     let rest = c.loop-rest.rest.now in
+    let t = c.loop-rest.self in
     let none : length rest ≡ 0 = eqb-true (length rest) 0 (sym c.if-not-is_empty.ensures) in
-    record {
+    let any : TakesAnyPiece c.args.self.now c.args.piece.now t = record {
       grows = λ bounded unsettled. let here = c.loop-rest.invariant.0 bounded unsettled in (here.0, omega (arith, here.1, none));
-      in_file = λ table file more here. subst (λ l. InFile table file (l ++ more) c.loop-rest.self) (no_bytes rest none) (c.loop-rest.invariant.1 table file more here);
-    }
+      in_file = λ known table file more here. subst (λ l. StandsIn known table file (l ++ more) t) (no_bytes rest none) (c.loop-rest.invariant.1 known table file more here);
+    } in
+    record { any = any; told = takes_told _ _ _ any }
 
 pub returns-after-loop-rest : goal.returns-after-loop-rest
-returns-after-loop-rest c = record {
-  grows = λ bounded unsettled. absurd (let h = c.loop-rest-test.ensures in let z : ◌≡◌ {A = ℕ} 0 1 = cc in omega arith);
-  in_file = λ table file more here. decided table file _ more c.loop-rest.self (sym c.loop-rest-test.ensures) (c.loop-rest.invariant.1 table file more here);
-}
+returns-after-loop-rest c =
+    let t = c.loop-rest.self in
+    let any : TakesAnyPiece c.args.self.now c.args.piece.now t = record {
+      grows = λ bounded unsettled. absurd (let h = c.loop-rest-test.ensures in let z : ◌≡◌ {A = ℕ} 0 1 = cc in omega arith);
+      in_file = λ known table file more here. decided known table file _ more t (sym c.loop-rest-test.ensures) (c.loop-rest.invariant.1 known table file more here);
+    } in
+    record { any = any; told = takes_told _ _ _ any }

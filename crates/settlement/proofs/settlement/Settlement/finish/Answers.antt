@@ -1,19 +1,24 @@
 use Rattle.std.proofs.Common.{[], refl, subst}
 use Rattle.settlement.specs.declared.settlement.Settlement.{Settlement}
-use Rattle.settlement.specs.Settling.{At, InFile}
+use Rattle.settlement.specs.Settling.{Whereabouts, StandsIn, AnswersForAny}
 use Rattle.settlement.proofs.Keeping.{done_in}
+use Rattle.settlement.proofs.Turning.{answers_told}
 use Rattle.settlement.proofs.settlement.Settlement.finish.Goals as goal
 
 pub returns-in-Settled : goal.returns-in-Settled
-returns-in-Settled c = λ table file here.
+returns-in-Settled c =
     let s = c.args.self in
     let t : Settlement = record { table = s.table; window = c.finish.new.self; order = s.order; chosen = s.chosen; outcome = s.outcome } in
-    let before : InFile table file [] t = done_in s t refl refl refl refl c.finish.ensures.finished.offset c.finish.ensures.stands table file here in
-    subst (At table file [] c.advance.new.self) c.in-Settled.is (c.advance.ensures.keeps.in_file table file [] before).stands
+    let any : AnswersForAny s _ = λ known table file here.
+        let before : StandsIn known table file [] t = done_in s t refl refl refl refl c.finish.ensures.finished.offset c.finish.ensures.stands known table file here in
+        subst (Whereabouts known table file [] c.advance.new.self) c.in-Settled.is (c.advance.ensures.keeps.in_file known table file [] before).stands in
+    record { any = any; told = answers_told s _ any }
 
 pub returns-in-Refused : goal.returns-in-Refused
-returns-in-Refused c = λ table file here.
+returns-in-Refused c =
     let s = c.args.self in
     let t : Settlement = record { table = s.table; window = c.finish.new.self; order = s.order; chosen = s.chosen; outcome = s.outcome } in
-    let before : InFile table file [] t = done_in s t refl refl refl refl c.finish.ensures.finished.offset c.finish.ensures.stands table file here in
-    subst (At table file [] c.advance.new.self) c.in-Refused.is (c.advance.ensures.keeps.in_file table file [] before).stands
+    let any : AnswersForAny s _ = λ known table file here.
+        let before : StandsIn known table file [] t = done_in s t refl refl refl refl c.finish.ensures.finished.offset c.finish.ensures.stands known table file here in
+        subst (Whereabouts known table file [] c.advance.new.self) c.in-Refused.is (c.advance.ensures.keeps.in_file known table file [] before).stands in
+    record { any = any; told = answers_told s _ any }
