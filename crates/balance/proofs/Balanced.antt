@@ -1,5 +1,5 @@
 -- A statement made by the rule balances against every run that leads to its account. Assumes nothing.
-use Rattle.std.proofs.Common.{◌≡◌, ℕ, zero, suc, ◌+◌, ◌-◌, ◌*◌, ◌/◌, ◌<◌, ◌≤◌, min, Bool, true, false, cond, ltb, List, [], ◌∷◌, map, length, get_or, take, sum, sym, refl, ap, ◌∙◌, subst, ⊎_elim, mul-zero, zero-mul, mul-div_cancel, arith}
+use Rattle.std.proofs.Common.{◌≡◌, ℕ, zero, suc, ◌+◌, ◌*◌, ◌/◌, ◌<◌, ◌≤◌, min, Bool, true, false, cond, ltb, List, [], ◌∷◌, map, get_or, take, sum, sym, refl, ap, ◌∙◌, subst, ⊎_elim, mul-zero, zero-mul, mul-div_cancel, arith}
 use native.Mathlib.Nat.{zero-div}
 use Rattle.std.specs.List.{range_with_len}
 use Rattle.std.proofs.lemmas.List.FromFn.{get_or-map-range_with_len}
@@ -13,7 +13,7 @@ use Rattle.options.specs.declared.settlement_option.SettlementOption.{Ghosts as 
 use Rattle.options.specs.Quarters.{Added}
 use Rattle.site.specs.declared.plant.Plant.{Plant}
 use Rattle.site.specs.declared.register.Register.{Register}
-use Rattle.site.specs.Plants.{no_plant, site_power_of, spelled, supported}
+use Rattle.site.specs.Plants.{no_plant, spelled, supported}
 use Rattle.figures.specs.declared.lines.ContractLine.{ContractLine}
 use Rattle.figures.specs.declared.lines.PlantLine.{PlantLine}
 use Rattle.figures.specs.declared.lines.Standing.{Standing}
@@ -25,7 +25,7 @@ use Rattle.account.specs.SupplyContracts.{no_contract}
 use Rattle.valuing.specs.Valued.{valued, netted, plant_row}
 use Rattle.account.specs.Statements.{contract_row, settled}
 use Rattle.balance.specs.Runs.{Call}
-use Rattle.balance.specs.Brought.{plants, contracts, readings, drawn, drawn_under, marked_for, at}
+use Rattle.balance.specs.Brought.{plants, contracts, readings, drawn_under, marked_for, at}
 use Rattle.balance.specs.Balances.{no_entry, PlantBalances, ContractBalances, Balances}
 use Rattle.balance.specs.Balances as say
 use Rattle.balance.proofs.Dividing.{all_lines}

@@ -1,5 +1,5 @@
 -- Every statement that is given in a run balances. Assumes nothing.
-use Rattle.std.proofs.Common.{◌≡◌, List, Ok, Err, sym, subst}
+use Rattle.std.proofs.Common.{List, Ok, Err, sym, subst}
 use Rattle.fault.specs.Questions.{Answer}
 use Rattle.calendar.specs.declared.value_calendar.ValueCalendar.{Ghosts as Calendar}
 use Rattle.options.specs.declared.settlement_option.SettlementOption.{Ghosts as Meaning}

@@ -1,9 +1,8 @@
 -- What an account holds of the plants, the contracts and the quarters that were accepted. Assumes nothing.
-use Rattle.std.proofs.Common.{◌≡◌, ℕ, ◌+◌, ◌-◌, ◌<◌, ◌≤◌, Bool, true, false, cond, eqb, ltb, ◌≢◌, List, [], ◌∷◌, length, get_or, set, sym, refl, ap, ◌∙◌, subst, ⊎_elim, arith, get_or-set_other, get_or-set_same}
+use Rattle.std.proofs.Common.{◌≡◌, ℕ, ◌+◌, ◌-◌, ◌<◌, Bool, true, false, cond, eqb, ◌≢◌, List, ◌∷◌, length, get_or, set, sym, refl, ap, ◌∙◌, ⊎_elim, arith, get_or-set_other, get_or-set_same}
 use Rattle.std.proofs.lemmas.List.Sums.{sum_by-set}
 use Rattle.std.proofs.lemmas.Bool.{cases_eq, cond-true, cond-false, eq-eqb, ne_eqb, eqb-true, eqb-false, true≢false}
 use Rattle.options.specs.declared.amounts.Amounts.{Amounts}
-use Rattle.options.specs.Quarters.{Sums}
 use Rattle.site.specs.declared.plant.Plant.{Plant}
 use Rattle.site.specs.declared.plant.PlantEntry.{PlantEntry}
 use Rattle.site.specs.declared.register.Register.{Register}

@@ -1,5 +1,5 @@
 -- What an account holds after any run that leads to it. Assumes nothing.
-use Rattle.std.proofs.Common.{◌≡◌, ℕ, ◌+◌, ◌<◌, ◌≤◌, Bool, true, false, cond, not, ltb, List, [], ◌∷◌, length, get_or, Ok, Err, sym, refl, ap, ◌∙◌, subst, arith}
+use Rattle.std.proofs.Common.{◌≡◌, ℕ, ◌+◌, ◌<◌, Bool, true, false, cond, not, ltb, List, [], ◌∷◌, length, get_or, Ok, Err, sym, refl, ap, ◌∙◌, subst, arith}
 use Rattle.std.proofs.lemmas.List.FromFn.{get_or-map-range_with_len}
 use Rattle.std.proofs.lemmas.Bool.{cond-true, lt-ltb, ltb-true}
 use Rattle.fault.specs.Questions.{Answer}
@@ -18,7 +18,7 @@ use Rattle.account.specs.Calls.{mark, marks, Opens, Begins, Enters}
 use Rattle.account.specs.Ledgers.{Fresh}
 use Rattle.account.specs.SupplyContracts.{used, draw_of}
 use Rattle.account.specs.declared.contract.Contract.{Contract}
-use Rattle.balance.specs.Runs.{Call, Account, drafted, opened, closed, Leads, begins_blank, sets, adds, checks, opens, begins, enters, closes, states_interim, states_finally, setting_year, adding_plant, beginning_contract, entering_quarter}
+use Rattle.balance.specs.Runs.{Call, Account, drafted, opened, closed, Leads, begins_blank, sets, adds, checks, opens, begins, enters, closes, states_interim, states_finally, adding_plant, beginning_contract, entering_quarter}
 use Rattle.balance.specs.Brought.{Reading, plants, contracts, readings, fed_in, drawn, marked_for}
 use Rattle.balance.proofs.Asked.{got_yes}
 use Rattle.balance.proofs.Held.{Registered, registered_more, Kept, kept_begun, kept_booked}

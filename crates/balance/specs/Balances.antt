@@ -10,7 +10,7 @@ use Rattle.figures.specs.declared.lines.PlantLine.{PlantLine}
 use Rattle.statement.specs.declared.Statement.{Statement}
 use Rattle.figures.specs.Blank.{no_plant_line, no_contract_line}
 use Rattle.statement.specs.Lines.{plant_lines, contract_lines}
-use Rattle.balance.specs.Runs.{Call, setting_year, adding_plant, checking_fitness, opening, beginning_contract, entering_quarter, closing, giving_statement, Account, opened, closed, Leads}
+use Rattle.balance.specs.Runs.{Call, setting_year, adding_plant, checking_fitness, opening, beginning_contract, entering_quarter, closing, giving_statement, Account, Leads}
 use Rattle.balance.specs.Brought.{plants, contracts, readings, fed_in, drawn, drawn_under, marked_for, at}
 
 abbrev pub no_entry : PlantEntry

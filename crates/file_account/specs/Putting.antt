@@ -6,11 +6,9 @@ use Rattle.fault.specs.Questions.{Answer, fault}
 use Rattle.calendar.specs.declared.value_calendar.ValueCalendar.{Ghosts as Calendar}
 use Rattle.options.specs.declared.amounts.Amounts.{Amounts}
 use Rattle.options.specs.declared.settlement_option.SettlementOption.{Ghosts as Meaning}
-use Rattle.site.specs.declared.draft.Draft.{Draft}
 use Rattle.site.specs.declared.plant.PlantEntry.{PlantEntry}
 use Rattle.site.specs.Drafts.{AddsPlant, setting, fitness}
 use Rattle.site.specs.Registers.{Empty}
-use Rattle.account.specs.declared.year.Opened.{Opened}
 use Rattle.account.specs.Calls.{Opens, Begins, Enters, complete}
 use Rattle.account.specs.Statements.{settled, interim, finally, Fills}
 use Rattle.figures.specs.declared.lines.Standing.TheVariants.{Interim, Final}

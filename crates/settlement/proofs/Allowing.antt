@@ -10,7 +10,7 @@ use Rattle.flat.specs.contracts.settles.FlatOptionSettlementOption.TheImpl.{ghos
 use Rattle.tagged_file.specs.declared.order.Order.{Order}
 use Rattle.tagged_file.specs.declared.record.Tag.{Tag}
 use Rattle.tagged_file.specs.declared.record.Tag.TheVariants as tags
-use Rattle.tagged_file.specs.Follows.{has_year, allowed, Follows}
+use Rattle.tagged_file.specs.Follows.{has_year, Follows}
 use Rattle.tagged_file.specs.Format.{right}
 use Rattle.tagged_file.specs.Numbers.{byte_at}
 use Rattle.file_account.specs.declared.account_of_file.AccountOfFile.{AccountOfFile}

@@ -1,7 +1,6 @@
 -- What a file comes to, said record by record, is what it comes to by what it spells. Assumes nothing.
-use Rattle.std.proofs.Common.{◌≡◌, ℕ, List, ◌++◌, Ok, Err, Result, sym, subst, ⊎_elim}
+use Rattle.std.proofs.Common.{ℕ, List, ◌++◌, Ok, Err, Result, sym, subst, ⊎_elim}
 use Rattle.fault.specs.declared.Fault.{Fault}
-use Rattle.fault.specs.Questions.{fault}
 use Rattle.calendar.specs.declared.published_table.PublishedTable.{PublishedTable}
 use Rattle.statement.specs.declared.Statement.{Statement}
 use Rattle.tagged_file.specs.declared.order.Order.{Order}

@@ -1,15 +1,14 @@
 -- A file spells one list of records and one ending. Assumes nothing.
-use Rattle.std.proofs.Common.{◌≡◌, ℕ, ◌+◌, List, [], ◌∷◌, length, drop, Some, Ok, Err, Option, sym, refl, ap, ◌∙◌, subst, arith}
+use Rattle.std.proofs.Common.{◌≡◌, ℕ, ◌+◌, List, [], ◌∷◌, drop, Some, Ok, Err, Option, sym, refl, ap, ◌∙◌, subst, arith}
 use Rattle.fault.specs.declared.Fault.{Fault}
 use Rattle.fault.specs.declared.cause.Cause.TheVariants.{OutOfOrder, BytesAfterEnd}
 use Rattle.fault.specs.Questions.{Answer, asked, fault}
 use Rattle.tagged_file.specs.declared.order.Order.{Order}
 use Rattle.tagged_file.specs.declared.order.Stage.{Stage}
 use Rattle.tagged_file.specs.declared.record.Tag.{Tag}
-use Rattle.tagged_file.specs.declared.record.Tag.TheVariants as tags
 use Rattle.tagged_file.specs.Decoded.{Decoded, decoded}
 use Rattle.tagged_file.specs.Follows.{allowed, next, counted, Follows}
-use Rattle.tagged_file.specs.Spelling.{Placed, Ending, StandsHere, Spells, ended, broken_off, no_record, out_of_order, one_more, past_end, at_end}
+use Rattle.tagged_file.specs.Spelling.{Placed, Ending, StandsHere, Spells, broken_off, no_record, out_of_order, one_more, past_end, at_end}
 
 -- two orders that tell the same
 abbrev pub Alike : Order → Order → Type 0

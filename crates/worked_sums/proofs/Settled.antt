@@ -1,5 +1,5 @@
 -- What the run's sums come to. Assumes nothing.
-use Rattle.std.proofs.Common.{◌≡◌, ◌-◌, get_or}
+use Rattle.std.proofs.Common.{◌≡◌, get_or}
 use Rattle.flat.specs.contracts.settles.FlatOptionSettlementOption.TheImpl.{ghosts as flat}
 use Rattle.flat.specs.declared.FlatOption.{FlatOption}
 use Rattle.site.specs.declared.register.Register.{Register}
