@@ -1,6 +1,6 @@
 use Rattle.std.proofs.Common.{◌-◌, arith, rules}
 use Rattle.options.proofs.Allowed.{each}
-use Rattle.options.proofs.Marked.{uncapped, marked_within}
+use Rattle.options.proofs.Marked.{marked_within}
 use Rattle.delimitation.proofs.settles.DelimitationOptionSettlementOption.take.Goals as goal
 
 pub invariant_of-self : goal.invariant_of-self
@@ -9,8 +9,8 @@ invariant_of-self c =
     let admitted = c.in_ok-admit.ensures.admitted in
     let small = each c.args.amounts admitted.0 in
     let room = admitted.1 in
-    let direct_marks = uncapped _ _ _ _ (λ p. omega (arith, o.direct_part p, small.feed_in)) c.add_marked.ensures in
-    let store_marks = uncapped _ _ _ _ (λ p. omega (arith, o.store_part p, small.feed_in)) c.add_marked-2.ensures in
+    let direct_marks = c.add_marked.ensures.uncapped (λ p. omega (arith, o.direct_part p, small.feed_in, room)) in
+    let store_marks = c.add_marked-2.ensures.uncapped (λ p. omega (arith, o.store_part p, small.feed_in, room)) in
     let direct = marked_within _ _ _ _ (o.feed_in - o.store_feed_in) direct_marks (λ p. omega (arith, o.direct_part p)) in
     let store = marked_within _ _ _ _ o.store_feed_in store_marks o.store_part in
     search rules
