@@ -2,7 +2,7 @@
 #![tactic(auto)]
 
 use calendar::published_table::PublishedTable;
-use settlement::pieces::settle_bytes;
+use settlement::settlement::Settlement;
 use std::{fs, io};
 
 // Settles the bytes, which come in as pieces of this size, and prints what they come to.
@@ -14,7 +14,11 @@ fn report(
     bytes: &[u8],
     piece: usize,
 ) -> io::Result<()> {
-    match settle_bytes(PublishedTable::new(table), bytes, piece) {
+    let mut settlement = Settlement::new(PublishedTable::new(table));
+    for part in bytes.chunks(piece.max(1)) {
+        settlement.feed(part);
+    }
+    match settlement.finish() {
         Ok(_) => println!(rt; "{what} {at}: settled"),
         Err(fault) => println!(rt; "{what} {at}: {fault}"),
     }
