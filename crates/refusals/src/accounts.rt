@@ -44,11 +44,11 @@ mod tests {
         let table = PublishedTable::new(&bytes);
         let mut year: Opened<FlatOption> = Opened::open(Draft::new());
         let mut statement = Statement::blank();
-        refused(&rt, year.begin_contract(7), 3, 21, 7)?;
-        refused(&rt, year.begin_contract(0), 3, 21, 0)?;
-        refused(&rt, year.enter_quarter(&table, 5, AMOUNTS), 3, 21, 5)?;
-        refused(&rt, year.statement(&mut statement), 3, 21, 0)?;
-        refused(&rt, year.close().statement(&mut statement), 3, 21, 0)?;
+        refused(year.begin_contract(7), 3, 21, 7)?;
+        refused(year.begin_contract(0), 3, 21, 0)?;
+        refused(year.enter_quarter(&table, 5, AMOUNTS), 3, 21, 5)?;
+        refused(year.statement(&mut statement), 3, 21, 0)?;
+        refused(year.close().statement(&mut statement), 3, 21, 0)?;
         assert_eq!(rt; statement, Statement::blank());
         Ok(())
     }
@@ -56,15 +56,15 @@ mod tests {
     #[test]
     fn contracts(rt: HostRuntime) -> Result<(), Fail> {
         let mut year = opened(2026)?;
-        refused(&rt, year.begin_contract(0), 3, 22, 0)?;
+        refused(year.begin_contract(0), 3, 22, 0)?;
         for number in 1..5 {
             year.begin_contract(number)?;
         }
         let before = stated(&year)?;
         assert_eq!(rt; before.contract_count, 4);
-        refused(&rt, year.begin_contract(0), 3, 22, 0)?;
-        refused(&rt, year.begin_contract(4), 3, 23, 4)?;
-        refused(&rt, year.begin_contract(5), 3, 24, 5)?;
+        refused(year.begin_contract(0), 3, 22, 0)?;
+        refused(year.begin_contract(4), 3, 23, 4)?;
+        refused(year.begin_contract(5), 3, 24, 5)?;
         assert_eq!(rt; stated(&year)?, before);
         Ok(())
     }
@@ -74,14 +74,13 @@ mod tests {
         let bytes = vec![in rt.alloc(); 255u8; 35_136]?;
         let table = PublishedTable::new(&bytes);
         let mut year = opened(2026)?;
-        refused(&rt, year.enter_quarter(&table, 1, AMOUNTS), 3, 25, 1)?;
+        refused(year.enter_quarter(&table, 1, AMOUNTS), 3, 25, 1)?;
         year.begin_contract(7)?;
         year.enter_quarter(&table, 0, AMOUNTS)?;
         let before = stated(&year)?;
         assert_eq!(rt; before.totals.feed_in.nettable, 200);
-        refused(&rt, year.enter_quarter(&table, 0, AMOUNTS), 3, 26, 0)?;
+        refused(year.enter_quarter(&table, 0, AMOUNTS), 3, 26, 0)?;
         refused(
-            &rt,
             year.enter_quarter(
                 &table,
                 2,
@@ -95,7 +94,6 @@ mod tests {
             2,
         )?;
         refused(
-            &rt,
             year.enter_quarter(
                 &table,
                 1,
@@ -109,7 +107,6 @@ mod tests {
             1,
         )?;
         refused(
-            &rt,
             year.enter_quarter(
                 &table,
                 1,
@@ -123,7 +120,6 @@ mod tests {
             1,
         )?;
         refused(
-            &rt,
             year.enter_quarter(
                 &table,
                 1,
@@ -137,7 +133,6 @@ mod tests {
             1,
         )?;
         refused(
-            &rt,
             year.enter_quarter(
                 &table,
                 1,
@@ -151,7 +146,6 @@ mod tests {
             1,
         )?;
         refused(
-            &rt,
             year.enter_quarter(&PublishedTable::new(&bytes[0..35_135]), 1, AMOUNTS),
             5,
             28,
@@ -185,16 +179,10 @@ mod tests {
             common.enter_quarter(&table, quarter, AMOUNTS)?;
             leap.enter_quarter(&table, quarter, AMOUNTS)?;
         }
-        refused(
-            &rt,
-            common.enter_quarter(&table, 35_040, AMOUNTS),
-            3,
-            26,
-            35_040,
-        )?;
+        refused(common.enter_quarter(&table, 35_040, AMOUNTS), 3, 26, 35_040)?;
         leap.enter_quarter(&table, 35_040, AMOUNTS)?;
         let mut statement = Statement::blank();
-        refused(&rt, leap.close().statement(&mut statement), 3, 29, 35_041)?;
+        refused(leap.close().statement(&mut statement), 3, 29, 35_041)?;
         assert_eq!(rt; statement, Statement::blank());
         common.close().statement(&mut statement)?;
         assert_eq!(rt; statement.totals.draw.draw, 10_512_000);

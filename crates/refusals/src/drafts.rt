@@ -18,10 +18,10 @@ mod tests {
     #[test]
     fn years_out_of_range(rt: HostRuntime) -> Result<(), Fail> {
         let mut draft = Draft::new();
-        refused(&rt, draft.set_year(2024), 2, 11, 0)?;
+        refused(draft.set_year(2024), 2, 11, 0)?;
         assert_eq!(rt; draft.year(), None);
         draft.set_year(2099)?;
-        refused(&rt, draft.set_year(2100), 2, 11, 0)?;
+        refused(draft.set_year(2100), 2, 11, 0)?;
         assert_eq!(rt; draft.year(), Some(2099));
         draft.set_year(2025)?;
         assert_eq!(rt; draft.year(), Some(2025), "the latest counts");
@@ -32,15 +32,8 @@ mod tests {
     fn plants_out_of_range(rt: HostRuntime) -> Result<(), Fail> {
         let mut draft = Draft::new();
         draft.add_plant(PLANT)?;
+        refused(draft.add_plant(PlantEntry { power: 0, ..PLANT }), 2, 13, 1)?;
         refused(
-            &rt,
-            draft.add_plant(PlantEntry { power: 0, ..PLANT }),
-            2,
-            13,
-            1,
-        )?;
-        refused(
-            &rt,
             draft.add_plant(PlantEntry {
                 power: 200_001,
                 kind: 2,
@@ -50,15 +43,8 @@ mod tests {
             13,
             1,
         )?;
+        refused(draft.add_plant(PlantEntry { kind: 2, ..PLANT }), 2, 14, 1)?;
         refused(
-            &rt,
-            draft.add_plant(PlantEntry { kind: 2, ..PLANT }),
-            2,
-            14,
-            1,
-        )?;
-        refused(
-            &rt,
             draft.add_plant(PlantEntry {
                 marketing: 2,
                 ..PLANT
@@ -67,15 +53,8 @@ mod tests {
             14,
             1,
         )?;
+        refused(draft.add_plant(PlantEntry { regime: 8, ..PLANT }), 2, 14, 1)?;
         refused(
-            &rt,
-            draft.add_plant(PlantEntry { regime: 8, ..PLANT }),
-            2,
-            14,
-            1,
-        )?;
-        refused(
-            &rt,
             draft.add_plant(PlantEntry {
                 power: 2_001,
                 kind: 1,
@@ -86,7 +65,6 @@ mod tests {
             1,
         )?;
         refused(
-            &rt,
             draft.add_plant(PlantEntry {
                 power: 200_000,
                 kind: 1,
@@ -97,7 +75,6 @@ mod tests {
             1,
         )?;
         refused(
-            &rt,
             draft.add_plant(PlantEntry {
                 power: 199_001,
                 ..PLANT
@@ -127,13 +104,7 @@ mod tests {
         for _ in 0..8 {
             draft.add_plant(PLANT)?;
         }
-        refused(
-            &rt,
-            draft.add_plant(PlantEntry { power: 0, ..PLANT }),
-            2,
-            12,
-            8,
-        )?;
+        refused(draft.add_plant(PlantEntry { power: 0, ..PLANT }), 2, 12, 8)?;
         assert_eq!(rt; draft.register().count(), 8);
         Ok(())
     }
@@ -141,17 +112,17 @@ mod tests {
     #[test]
     fn unfit_drafts(rt: HostRuntime) -> Result<(), Fail> {
         let mut draft = Draft::new();
-        refused(&rt, draft.check_fitness::<FlatOption>(), 2, 17, 0)?;
+        refused(draft.check_fitness::<FlatOption>(), 2, 17, 0)?;
         draft.set_year(2026)?;
-        refused(&rt, draft.check_fitness::<FlatOption>(), 2, 18, 0)?;
+        refused(draft.check_fitness::<FlatOption>(), 2, 18, 0)?;
         draft.add_plant(PlantEntry {
             power: 30_001,
             marketing: 1,
             ..PLANT
         })?;
-        refused(&rt, draft.check_fitness::<FlatOption>(), 2, 18, 0)?;
+        refused(draft.check_fitness::<FlatOption>(), 2, 18, 0)?;
         draft.add_plant(PLANT)?;
-        refused(&rt, draft.check_fitness::<FlatOption>(), 2, 19, 0)?;
+        refused(draft.check_fitness::<FlatOption>(), 2, 19, 0)?;
         draft.check_fitness::<DelimitationOption>()?;
         assert_eq!(rt; draft.register().count(), 2);
         Ok(())
@@ -173,7 +144,7 @@ mod tests {
         })?;
         draft.check_fitness::<FlatOption>()?;
         draft.add_plant(PlantEntry { power: 1, ..PLANT })?;
-        refused(&rt, draft.check_fitness::<FlatOption>(), 2, 19, 0)?;
+        refused(draft.check_fitness::<FlatOption>(), 2, 19, 0)?;
         assert_eq!(rt; draft.register().count(), 3);
         Ok(())
     }

@@ -25,9 +25,8 @@ mod tests {
         for _ in 0..35_136 {
             option.take(LARGEST, MARKS)?;
         }
-        refused(&rt, option.take(LARGEST, MARKS), 4, 30, 35_136)?;
+        refused(option.take(LARGEST, MARKS), 4, 30, 35_136)?;
         refused(
-            &rt,
             option.take(
                 Amounts {
                     draw: 50_001,
@@ -63,11 +62,10 @@ mod tests {
         assert_eq!(rt; table.above_zero(2, 13)?, false);
         assert_eq!(rt; table.above_zero(1, 10)?, false);
         assert_eq!(rt; table.above_zero(7, 35_135)?, false);
-        refused(&rt, asked(&table, 7, 35_136), 5, 28, 35_136)?;
-        refused(&rt, asked(&table, 8, 35_136), 5, 28, 35_136)?;
-        refused(&rt, asked(&table, 8, 35_135), 5, 31, 35_135)?;
+        refused(asked(&table, 7, 35_136), 5, 28, 35_136)?;
+        refused(asked(&table, 8, 35_136), 5, 28, 35_136)?;
+        refused(asked(&table, 8, 35_135), 5, 31, 35_135)?;
         refused(
-            &rt,
             asked(&PublishedTable::new(&bytes[1..35_136]), 0, 0),
             5,
             28,

@@ -3,6 +3,5 @@
 
 mod accounts;
 mod drafts;
-#[cfg(test)]
 pub mod expected;
 mod layers;

@@ -4,7 +4,7 @@ use Rattle.fault.specs.declared.Fault.{Fault}
 use Rattle.calendar.specs.declared.published_table.PublishedTable.{PublishedTable}
 use Rattle.statement.specs.declared.Statement.{Statement}
 use Rattle.window.specs.Held.{ready}
-use Rattle.window.specs.Standing.{StandsOn, StandsAtEnd}
+use Rattle.window.specs.Lying.{LiesOn, LiesAtEnd}
 use Rattle.settlement.specs.declared.settlement.Outcome.{Outcome}
 use Rattle.settlement.specs.declared.settlement.Outcome.TheVariants.{Open, Settled, Refused}
 use Rattle.settlement.specs.declared.settlement.Settlement.{Settlement}
@@ -79,7 +79,7 @@ told_still by_records file s t order chosen offset bounded = bounded_still s t o
 
 -- bytes that come in at the end of the window
 module _ (s t : Settlement) (came : List ℕ) (table : t.table ≡ s.table) (order : t.order ≡ s.order) (chosen : t.chosen ≡ s.chosen) (outcome : t.outcome ≡ s.outcome)
-    (offset : t.window.offset ≡ s.window.offset) (stood : StandsOn s.window came t.window) where
+    (offset : t.window.offset ≡ s.window.offset) (stood : LiesOn s.window came t.window) where
   came_at : (known : Known) (by : PublishedTable) (file rest : List ℕ) (x : Outcome) → Whereabouts known by file (came ++ rest) s x → Whereabouts known by file rest t x
   came_at known by file rest Open at = (
     stood file rest at.0,
@@ -96,7 +96,7 @@ module _ (s t : Settlement) (came : List ℕ) (table : t.table ≡ s.table) (ord
   came_in_file known by file rest here = record { by = table ∙ here.by; stands = subst (Whereabouts known by file rest t) (sym outcome) (came_at known by file rest s.outcome here.stands) }
 
 -- a settlement of which nothing is still to come
-pub done_in : (s t : Settlement) → t.table ≡ s.table → t.order ≡ s.order → t.chosen ≡ s.chosen → t.outcome ≡ s.outcome → t.window.offset ≡ s.window.offset → StandsAtEnd s.window t.window
+pub done_in : (s t : Settlement) → t.table ≡ s.table → t.order ≡ s.order → t.chosen ≡ s.chosen → t.outcome ≡ s.outcome → t.window.offset ≡ s.window.offset → LiesAtEnd s.window t.window
     → (known : Known) (by : PublishedTable) (file : List ℕ) → StandsIn known by file [] s → StandsIn known by file [] t
 done_in s t table order chosen outcome offset stood known by file here = record { by = table ∙ here.by; stands = subst (Whereabouts known by file [] t) (sym outcome) (at s.outcome here.stands) }
   where

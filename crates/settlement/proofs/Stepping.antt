@@ -16,7 +16,7 @@ use Rattle.tagged_file.specs.Format.{right, tag_in}
 use Rattle.window.specs.Held.{pending, ready, Passed}
 use Rattle.window.specs.Limits.{most_offset}
 use Rattle.tagged_file.specs.Spelling.{StandsHere}
-use Rattle.window.specs.Standing.{Stands, StandsPast, AnswersForFile}
+use Rattle.window.specs.Lying.{LiesIn, LiesPast, AnswersForAnyFile}
 use Rattle.window.proofs.Parts.{length_part_le}
 use Rattle.file_account.specs.declared.chosen.Chosen.{Chosen}
 use Rattle.settlement.specs.declared.settlement.Outcome.{Outcome}
@@ -46,7 +46,7 @@ follows_at o o' tag tag' p p' r same here follows = subst (λ q. Follows o tag' 
 
 -- a step that refuses decides what the file comes to
 pub refused_step : (s t : Settlement) (r : Answer) (f : Fault) → r ≡ Err f → t.table ≡ s.table → t.window.finished ≡ s.window.finished
-    → ((file rest : List ℕ) → Stands file s.window rest → ready s.window ≡ true → ComesHere file s (Err f)) → StepsOn s r t
+    → ((file rest : List ℕ) → LiesIn file s.window rest → ready s.window ≡ true → ComesHere file s (Err f)) → StepsOn s r t
 refused_step s t r f err table finished comes = record {
   table = table;
   finished = finished;
@@ -60,21 +60,21 @@ bounded_told s bounded =
     omega (arith, bounded_most s.order s.chosen s.window.offset bounded, length_part_le s.window.bytes s.window.start s.window.end, s.window.within)
 
 -- where something is held, an offset can tell where it ends
-told : (known : Known) (file rest : List ℕ) (s : Settlement) → Stands file s.window rest → Told known file s → 0 < length (pending s.window) → came_in s ≤ most_offset
+told : (known : Known) (file rest : List ℕ) (s : Settlement) → LiesIn file s.window rest → Told known file s → 0 < length (pending s.window) → came_in s ≤ most_offset
 told by_length file rest s stands fits some = omega (arith, ap length stands.on, length-append (pending s.window) rest, length-drop s.window.offset file)
 told by_records file rest s stands bounded some = bounded_told s bounded
 
-module _ (s : Settlement) (tag : Tag) (content : List ℕ) (n : ℕ) (o' : Order) (whole : AnswersForFile s.window (Ok (Some tag, content, n))) where
-  here : Follows s.order tag s.window.offset (Ok tt) o' → (file rest : List ℕ) → Stands file s.window rest → ready s.window ≡ true
+module _ (s : Settlement) (tag : Tag) (content : List ℕ) (n : ℕ) (o' : Order) (whole : AnswersForAnyFile s.window (Ok (Some tag, content, n))) where
+  here : Follows s.order tag s.window.offset (Ok tt) o' → (file rest : List ℕ) → LiesIn file s.window rest → ready s.window ≡ true
       → StandsHere file s.window.offset s.order tag content n o'
   here follows file rest stands there = record { is = sym (whole file rest stands there); allowed = follows }
 
   pub refused_here : (f : Fault) → Follows s.order tag s.window.offset (Ok tt) o' → (tag ≡ tags.End → ⊥) → ChosenPuts table_calendar s.table s.chosen tag content (Err f)
-      → (file rest : List ℕ) → Stands file s.window rest → ready s.window ≡ true → ComesHere file s (Err (fault f.cause s.window.offset))
+      → (file rest : List ℕ) → LiesIn file s.window rest → ready s.window ≡ true → ComesHere file s (Err (fault f.cause s.window.offset))
   refused_here f follows no_end puts file rest stands there = refused s.table file s.window.offset n s.order o' s.chosen tag content f (here follows file rest stands there) no_end puts
 
   pub goes_on_here : (t : Settlement) (ch : Chosen) → Follows s.order tag s.window.offset (Ok tt) o' → (tag ≡ tags.End → ⊥) → ChosenPuts table_calendar s.table s.chosen tag content (Ok ch)
-      → right tag (length content) ≡ true → n ≡ 3 + length content → n ≤ length (pending s.window) → Passed s.window n t.window → StandsPast s.window t.window
+      → right tag (length content) ≡ true → n ≡ 3 + length content → n ≤ length (pending s.window) → Passed s.window n t.window → LiesPast s.window t.window
       → t.table ≡ s.table → t.order ≡ o' → t.chosen ≡ ch → t.outcome ≡ s.outcome → StepsOn s (Ok tt) t
   goes_on_here t ch follows no_end puts fits size held passed stood table order chosen outcome = record {
     table = table;
@@ -104,7 +104,7 @@ module _ (s : Settlement) (tag : Tag) (content : List ℕ) (n : ℕ) (o' : Order
 finished_when : (w : Window) → ready w ≡ true → length (pending w) < 1027 → w.finished ≡ true
 finished_when w there short = subst (λ b. (b || w.finished) ≡ true) (lt-leb 1027 (length (pending w)) short) there
 
-all_held : (file rest : List ℕ) (w : Window) → Stands file w rest → w.finished ≡ true → drop w.offset file ≡ pending w
+all_held : (file rest : List ℕ) (w : Window) → LiesIn file w rest → w.finished ≡ true → drop w.offset file ≡ pending w
 all_held file rest w stands done = stands.on ∙ ap (λ l. pending w ++ l) (stands.over done) ∙ append-nil (pending w)
 
 -- nothing follows the end record: the account answers
@@ -123,7 +123,7 @@ ended ch p (Refused f) e still = e
 
 -- the step of an end record, after which u is what the order left
 pub end_step : (s u t : Settlement) (content : List ℕ) (n : ℕ) (r : Answer) → u.table ≡ s.table → u.window ≡ s.window → u.chosen ≡ s.chosen → Ends u s.window.offset n r t → n ≡ 3 → n ≤ length (pending s.window)
-    → Follows s.order tags.End s.window.offset (Ok tt) u.order → AnswersForFile s.window (Ok (Some tags.End, content, n)) → StepsOn s r t
+    → Follows s.order tags.End s.window.offset (Ok tt) u.order → AnswersForAnyFile s.window (Ok (Some tags.End, content, n)) → StepsOn s r t
 end_step s u t content n r table window chosen ends three held follows whole = record {
   table = ends.table ∙ table;
   finished = ap (λ (w : Window). w.finished) (ends.window ∙ window);

@@ -43,12 +43,12 @@ module _ (table : PublishedTable) (file : List ℕ) where
   settles_to out comes = spelled.from_start table file comes.0 out comes.1 (by_spelling comes.2)
 
   at_told : (rest : List ℕ) (s : Settlement) (outcome : Outcome) → Whereabouts by_length table file rest s outcome → At table file rest s outcome
-  at_told rest s Open w = (record { stands = w.0; told = w.1 }, λ out comes. comes_to out (w.2 out (by_spelling comes)))
+  at_told rest s Open w = (record { on = w.0.on; over = w.0.over; told = w.1 }, λ out comes. comes_to out (w.2 out (by_spelling comes)))
   at_told rest s (Settled statement) w = comes_to (Ok statement) w
   at_told rest s (Refused f) w = comes_to (Err f) w
 
   of_told : (rest : List ℕ) (s : Settlement) (outcome : Outcome) → At table file rest s outcome → Whereabouts by_length table file rest s outcome
-  of_told rest s Open a = (a.0.stands, a.0.told, λ out settles. settles_to out (a.1 out (in_turn out settles.spells settles.outcome)))
+  of_told rest s Open a = (record { on = a.0.on; over = a.0.over }, a.0.told, λ out settles. settles_to out (a.1 out (in_turn out settles.spells settles.outcome)))
   of_told rest s (Settled statement) a = settles_to (Ok statement) a
   of_told rest s (Refused f) a = settles_to (Err f) a
 

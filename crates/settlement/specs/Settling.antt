@@ -8,7 +8,8 @@ use Rattle.statement.specs.declared.Statement.{Statement}
 use Rattle.window.specs.Held.{pending, ready}
 use Rattle.window.specs.Limits.{most_offset}
 use Rattle.tagged_file.specs.Spelling.{ended}
-use Rattle.window.specs.Standing.{Stands, StandsTold}
+use Rattle.window.specs.Lying.{LiesIn}
+use Rattle.window.specs.Standing.{Stands}
 use Rattle.settlement.specs.declared.settlement.Outcome.{Outcome}
 use Rattle.settlement.specs.declared.settlement.Outcome.TheVariants.{Open, Settled, Refused}
 use Rattle.settlement.specs.declared.settlement.Settlement.{Settlement}
@@ -24,7 +25,7 @@ ComesHere file s out = SettlesTo s.table file s.window.offset s.order s.chosen o
 
 -- after one step: what the file comes to from there on it came to before, or it has come to its outcome
 abbrev pub Onward : List ℕ → List ℕ → Settlement → Settlement → Outcome → Type 0
-Onward file rest s t Open = Stands file t.window rest × ((out : Result Statement Fault) → ComesHere file t out → ComesHere file s out)
+Onward file rest s t Open = LiesIn file t.window rest × ((out : Result Statement Fault) → ComesHere file t out → ComesHere file s out)
 Onward file rest s t (Settled statement) = ComesHere file s (Ok statement)
 Onward file rest s t (Refused f) = ⊥
 
@@ -59,11 +60,11 @@ pub record StepsOn (s : Settlement) (r : Answer) (t : Settlement) : Type 0 where
   pub table : t.table ≡ s.table
   pub finished : t.window.finished ≡ s.window.finished
   pub grows : r ≡ Ok tt → Grows s 0 t
-  pub steps : (known : Known) (file rest : List ℕ) → Stands file s.window rest → Told known file s → ready s.window ≡ true → s.outcome ≡ Open → StepIn file rest s r t
+  pub steps : (known : Known) (file rest : List ℕ) → LiesIn file s.window rest → Told known file s → ready s.window ≡ true → s.outcome ≡ Open → StepIn file rest s r t
 
 -- where a settlement stands in a file of which this rest is still to come: as far as it is open, what the file comes to from here on is what it comes to as a whole; and an outcome is the file's, whatever is still to come
 abbrev pub Whereabouts : Known → PublishedTable → List ℕ → List ℕ → Settlement → Outcome → Type 0
-Whereabouts known table file rest s Open = Stands file s.window rest × Told known file s × ((out : Result Statement Fault) → SettlesTo table file s.window.offset s.order s.chosen out → FileSettlesTo table file out)
+Whereabouts known table file rest s Open = LiesIn file s.window rest × Told known file s × ((out : Result Statement Fault) → SettlesTo table file s.window.offset s.order s.chosen out → FileSettlesTo table file out)
 Whereabouts known table file rest s (Settled statement) = FileSettlesTo table file (Ok statement)
 Whereabouts known table file rest s (Refused f) = FileSettlesTo table file (Err f)
 
@@ -97,7 +98,7 @@ AnswersForAny s r = (known : Known) (table : PublishedTable) (file : List ℕ) �
 
 -- the same of files whose length an offset can tell, record by record
 abbrev pub At : PublishedTable → List ℕ → List ℕ → Settlement → Outcome → Type 0
-At table file rest s Open = StandsTold file s.window rest × ((out : Result Statement Fault) → Comes table file s.window.offset s.order s.chosen out → ComesTo table file out)
+At table file rest s Open = Stands file s.window rest × ((out : Result Statement Fault) → Comes table file s.window.offset s.order s.chosen out → ComesTo table file out)
 At table file rest s (Settled statement) = ComesTo table file (Ok statement)
 At table file rest s (Refused f) = ComesTo table file (Err f)
 

@@ -1,3 +1,4 @@
 pub mod Limits
 pub mod Held
 pub mod Standing
+pub mod Lying

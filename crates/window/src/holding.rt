@@ -2,6 +2,7 @@
 ghost use Rattle.std.specs.Prelude.{◌≡◌};
 ghost use Rattle.tagged_file.specs.Decoded.{decoded, seen, AnyFits};
 ghost use Rattle.window.specs.Held.{pending, room_in, ready};
+ghost use Rattle.window.specs.Lying.{AnswersForAnyFile};
 ghost use Rattle.window.specs.Standing.{AnswersForFile};
 
 use crate::{CAPACITY, LONGEST, Window};
@@ -50,6 +51,7 @@ impl Window {
         ensures says { seen result ≡ decoded self.now.offset (pending self.now) }
         ensures fits { AnyFits (pending self.now) result }
         ensures whole { AnswersForFile self.now (seen result) }
+        ensures any { AnswersForAnyFile self.now (seen result) }
     {
         decode(self.held(), self.offset)
     }

@@ -1,7 +1,8 @@
 // Reading on through a window: pieces of the input come in at its end, and records are passed at its front.
 ghost use Rattle.std.specs.Prelude.{[], take};
 ghost use Rattle.window.specs.Held.{Fresh, Fed, Finished, Passed, Settled};
-ghost use Rattle.window.specs.Standing.{StandsAtStart, StandsOn, StandsPast, StandsOnTold, StandsAtEnd};
+ghost use Rattle.window.specs.Lying.{LiesAtStart, LiesOn, LiesPast, LiesAtEnd};
+ghost use Rattle.window.specs.Standing.{StandsAtStart, StandsOn, StandsAtEnd};
 
 use crate::{CAPACITY, Window};
 
@@ -9,6 +10,7 @@ impl Window {
     pub fn new() -> Window
         ensures fresh { Fresh result }
         ensures stands { StandsAtStart result }
+        ensures lies { LiesAtStart result }
     {
         Window {
             bytes: [0; CAPACITY],
@@ -23,6 +25,7 @@ impl Window {
     pub fn feed(&mut self, piece: &[u8]) -> usize
         ensures fed { Fed self.old piece.now result self.new }
         ensures stands { StandsOn self.old (take result piece.now) self.new }
+        ensures lies { LiesOn self.old (take result piece.now) self.new }
     {
         let count = self.room().min(piece.len());
         self.settle();
@@ -46,6 +49,7 @@ impl Window {
     pub fn finish(&mut self)
         ensures finished { Finished self.old self.new }
         ensures stands { StandsAtEnd self.old self.new }
+        ensures lies { LiesAtEnd self.old self.new }
     {
         self.finished = true;
     }
@@ -53,8 +57,8 @@ impl Window {
     // Passes the first `size` bytes, or all that is held if there are fewer. The offset stays at the largest number of 64 bits once it is there.
     pub fn pass(&mut self, size: usize)
         ensures passed { Passed self.old size self.new }
-        ensures stands { StandsPast self.old self.new }
-        ensures told { StandsOnTold self.old [] self.new }
+        ensures stands { StandsOn self.old [] self.new }
+        ensures lies { LiesPast self.old self.new }
     {
         let passed = size.min(self.held().len());
         self.start += passed;

@@ -1,6 +1,6 @@
 -- The worked sums hold. Assumes nothing.
 use Rattle.std.proofs.Common.{◌≡◌, ℕ, ◌-◌, ◌*◌, ◌/◌, min, true, false, ◌&&◌, ◌||◌, List, [], ◌∷◌, ℤ, pos, negsuc, ◌≤ℤ◌, refl, ap, ◌∙◌, arith}
-use Rattle.std.specs.List.{AllByRecursion as All}
+use Rattle.std.specs.List.{AllByRecursion}
 use Rattle.std.proofs.lemmas.Bool.{le-ltb}
 use Rattle.price_rule.specs.Prices.{zero_valued}
 use Rattle.delimitation.specs.declared.DelimitationOption.{DelimitationOption}
@@ -39,7 +39,7 @@ never_charged_at power o l =
     (rw (fed, store, stored, charged), rw (stored), rw (stored, store))
 
 -- the price after the last of the four is not negative
-past_one_negative : (later : List ℤ) → All (λ price. pos 0 ≤ℤ price) later → zero_valued (two_and_one_negative later) 2 3 ≡ false
+past_one_negative : (later : List ℤ) → AllByRecursion (λ price. pos 0 ≤ℤ price) later → zero_valued (two_and_one_negative later) 2 3 ≡ false
 past_one_negative [] positive = refl
 past_one_negative (pos n ∷ later) positive = ap (λ b. (b && true) || false) (le-ltb n 0 (omega arith))
 past_one_negative (negsuc n ∷ later) positive = absurd positive.0.le

@@ -1,6 +1,6 @@
 -- The worked sums: amounts in Wh, powers in W. Assumes nothing.
 use Rattle.std.specs.Prelude.{◌≡◌, ℕ, min, true, false, List, [], ◌∷◌, ℤ, pos, negsuc, ◌≤ℤ◌, Some, Ok, Err, codes}
-use Rattle.std.specs.List.{AllByRecursion as All}
+use Rattle.std.specs.List.{AllByRecursion}
 use Rattle.fault.specs.declared.cause.Cause.TheVariants.{OrdinaryPowerExceeded}
 use Rattle.fault.specs.Questions.{fault}
 use Rattle.division.specs.Shares.{share}
@@ -64,7 +64,7 @@ pub record WorkedSums : Type 0 where
   -- feed-in out of a store that was never charged is assigned to nothing
   pub never_charged : (power : ℕ) (o : DelimitationOption) → Led delimitation power (uncharged ∷ []) o → (delimitation.base o ≡ 20) × (delimitation.nettable o ≡ 0) × (delimitation.unassigned o ≡ 10)
   -- two negative prices in a row make both their quarters zero-valued; a price of 0 ends a run, and one negative price is no run of two
-  pub negative_prices : (later : List ℤ) → All (λ price. pos 0 ≤ℤ price) later → let prices = two_and_one_negative later in
+  pub negative_prices : (later : List ℤ) → AllByRecursion (λ price. pos 0 ≤ℤ price) later → let prices = two_and_one_negative later in
       (zero_valued prices 2 0 ≡ true) × (zero_valued prices 2 1 ≡ true) × (zero_valued prices 2 2 ≡ false) × (zero_valued prices 2 3 ≡ false)
   -- prices and run lengths as they are spelled
   pub spelled_prices : (price_of (codes "-12.34") ≡ Ok (negsuc 1233)) × (price_of (codes "0") ≡ Ok (pos 0)) × (price_of (codes "85.5") ≡ Ok (pos 8550)) × (price_of (codes "85,5") ≡ Err NoPrice)

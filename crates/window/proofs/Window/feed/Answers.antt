@@ -3,7 +3,7 @@ use native.Mathlib.Nat.{sub-zero}
 use Rattle.std.proofs.lemmas.List.{length-take-le}
 use Rattle.window.specs.Held.{pending, Fed}
 use Rattle.window.proofs.Parts.{part_more}
-use Rattle.window.proofs.Standing.{stands_fed}
+use Rattle.window.proofs.Standing.{lies_fed, stands_on}
 use Rattle.window.proofs.Window.feed.Goals as goal
 
 pub returns : goal.returns
@@ -20,4 +20,5 @@ returns c =
       offset = c.settle.ensures.offset;
       finished = c.settle.ensures.finished;
     } in
-    record { fed = fed; stands = stands_fed piece count c.args.self.now _ fed }
+    let lies = lies_fed piece count c.args.self.now _ fed in
+    record { fed = fed; stands = stands_on c.args.self.now (take count piece) _ lies; lies = lies }

@@ -2,7 +2,7 @@ use Rattle.std.proofs.Common.{◌≡◌, ◌+◌, min, length, refl, ap, ◌∙�
 use Rattle.window.specs.Held.{pending, Passed}
 use Rattle.window.specs.Limits.{most_offset}
 use Rattle.window.proofs.Parts.{length_part_le, part_drop}
-use Rattle.window.proofs.Standing.{stands_passed, told_passed}
+use Rattle.window.proofs.Standing.{lies_passed, stands_passed}
 use Rattle.window.proofs.Window.pass.Goals as goal
 
 pub invariant_of-self : goal.invariant_of-self
@@ -23,4 +23,4 @@ returns c =
       offset = c.saturating_add-self.ensures ∙ ap (λ n. min (w.offset + n) most_offset) passed;
       finished = refl;
     } in
-    record { passed = gone; stands = stands_passed size w _ gone; told = told_passed size w _ gone }
+    record { passed = gone; stands = stands_passed size w _ gone; lies = lies_passed size w _ gone }

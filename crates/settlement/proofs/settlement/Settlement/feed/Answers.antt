@@ -26,7 +26,7 @@ loop-rest-preserved c =
           let before : StandsIn known table file (rest ++ more) s = c.advance.ensures.keeps.in_file known table file (rest ++ more) (c.loop-rest.invariant.1 known table file more here) in
           let parts : rest ++ more ≡ take n rest ++ (drop n rest ++ more) = ap (λ l. l ++ more) (sym (take-append-drop n rest)) ∙ append_assoc (take n rest) (drop n rest) more in
           subst (λ l. StandsIn known table file (l ++ more) t) (sym (rest_of rest n within))
-          (came_in_file s t (take n rest) refl refl refl refl fed.offset c.feed-taken.ensures.stands known table file (drop n rest ++ more) (subst (λ l. StandsIn known table file l s) parts before)),
+          (came_in_file s t (take n rest) refl refl refl refl fed.offset c.feed-taken.ensures.lies known table file (drop n rest ++ more) (subst (λ l. StandsIn known table file l s) parts before)),
     )
 
 pub returns-else-not-is_empty : goal.returns-else-not-is_empty

@@ -10,7 +10,7 @@ returns-in-Settled c =
     let s = c.args.self in
     let t : Settlement = record { table = s.table; window = c.finish.new.self; order = s.order; chosen = s.chosen; outcome = s.outcome } in
     let any : AnswersForAny s _ = λ known table file here.
-    let before : StandsIn known table file [] t = done_in s t refl refl refl refl c.finish.ensures.finished.offset c.finish.ensures.stands known table file here in
+    let before : StandsIn known table file [] t = done_in s t refl refl refl refl c.finish.ensures.finished.offset c.finish.ensures.lies known table file here in
     subst (Whereabouts known table file [] c.advance.new.self) c.in-Settled.is (c.advance.ensures.keeps.in_file known table file [] before).stands in
     record { any = any; told = answers_told s _ any }
 
@@ -19,6 +19,6 @@ returns-in-Refused c =
     let s = c.args.self in
     let t : Settlement = record { table = s.table; window = c.finish.new.self; order = s.order; chosen = s.chosen; outcome = s.outcome } in
     let any : AnswersForAny s _ = λ known table file here.
-    let before : StandsIn known table file [] t = done_in s t refl refl refl refl c.finish.ensures.finished.offset c.finish.ensures.stands known table file here in
+    let before : StandsIn known table file [] t = done_in s t refl refl refl refl c.finish.ensures.finished.offset c.finish.ensures.lies known table file here in
     subst (Whereabouts known table file [] c.advance.new.self) c.in-Refused.is (c.advance.ensures.keeps.in_file known table file [] before).stands in
     record { any = any; told = answers_told s _ any }

@@ -19,7 +19,7 @@ returns c =
       bounded = bounded;
       in_file = λ known file told. record {
         by = refl;
-        stands = (c.new.ensures.stands file, told, λ out settles. from_start table file order out c.new-2.ensures (subst (λ p. SettlesTo table file p order chosen.None out) c.new.ensures.fresh.offset settles));
+        stands = (c.new.ensures.lies file, told, λ out settles. from_start table file order out c.new-2.ensures (subst (λ p. SettlesTo table file p order chosen.None out) c.new.ensures.fresh.offset settles));
       };
     } in
     record { any = any; told = starts_told table s any }
