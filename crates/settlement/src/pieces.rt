@@ -19,7 +19,8 @@ pub struct Pieces<'a> {
 
 impl<'a> Pieces<'a> {
     pub fn new(bytes: &'a [u8], size: usize) -> Pieces<'a>
-        ensures { result.rest.now ≡ bytes.now }
+        ensures brings { result.rest.now ≡ bytes.now }
+        ensures cut { result.size ≡ size }
     {
         Pieces { rest: bytes, size }
     }

@@ -19,19 +19,23 @@ lies_fed piece n w v f file rest s = record {
   over = λ e. nil_from_length rest (omega (arith, ap length (s.over (sym f.finished ∙ e)), length-append (take n piece) rest));
 }
 
--- once bytes were passed
-pub lies_passed : (size : ℕ) (w v : Window) → Passed w size v → LiesPast w v
-lies_passed size w v p file rest told s =
+-- once bytes were passed, and the new offset leaves the same of the file as these bytes do
+lies_after : (size : ℕ) (w v : Window) → Passed w size v → (file rest : List ℕ) → drop v.offset file ≡ drop (w.offset + min size (length (pending w))) file → LiesIn file w rest → LiesIn file v rest
+lies_after size w v p file rest same s =
     let n = min size (length (pending w)) in
-    let here : v.offset ≡ w.offset + n = omega (arith, p.offset) in
     record {
-      on = ap (λ k. drop k file) here
+      on = same
           ∙ sym (drop-drop n w.offset file)
           ∙ ap (drop n) s.on
           ∙ drop-append-le n (pending w) rest (omega arith)
           ∙ ap (λ l. l ++ rest) (drop_min size (length (pending w)) (pending w) (omega arith) ∙ sym p.held);
       over = λ e. s.over (sym p.finished ∙ e);
     }
+
+pub lies_passed : (size : ℕ) (w v : Window) → Passed w size v → LiesPast w v
+lies_passed size w v p file rest told =
+    let here : v.offset ≡ w.offset + min size (length (pending w)) = omega (arith, p.offset) in
+    lies_after size w v p file rest (ap (λ k. drop k file) here)
 
 -- what a ready window holds says the same with what is still to come
 held_whole : (w : Window) (p : ℕ) (rest : List ℕ) → (w.finished ≡ true → rest ≡ []) → ready w ≡ true → decoded p (pending w ++ rest) ≡ decoded p (pending w)
@@ -59,14 +63,6 @@ answers_for_file w answer any file rest s r = any file rest (lies file w rest s)
 -- in such a file nothing is left past the largest offset
 pub stands_passed : (size : ℕ) (w v : Window) → Passed w size v → StandsOn w [] v
 stands_passed size w v p file rest s =
-    let n = min size (length (pending w)) in
-    record {
-      on = ap (λ k. drop k file) p.offset
-          ∙ drop_min (w.offset + n) most_offset file s.told
-          ∙ sym (drop-drop n w.offset file)
-          ∙ ap (drop n) s.on
-          ∙ drop-append-le n (pending w) rest (omega arith)
-          ∙ ap (λ l. l ++ rest) (drop_min size (length (pending w)) (pending w) (omega arith) ∙ sym p.held);
-      over = λ e. s.over (sym p.finished ∙ e);
-      told = s.told;
-    }
+    let same = ap (λ k. drop k file) p.offset ∙ drop_min (w.offset + min size (length (pending w))) most_offset file s.told in
+    let after = lies_after size w v p file rest same (lies file w rest s) in
+    record { on = after.on; over = after.over; told = s.told }

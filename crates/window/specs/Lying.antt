@@ -1,4 +1,4 @@
--- The same of files of every length: however a file comes in, a window lies in it from call to call and answers for the whole of it. Assumes nothing.
+-- However a file comes in, and however long it is, a window lies in it from call to call and answers for the whole of it. Assumes nothing.
 use Rattle.std.specs.Prelude.{◌≡◌, ℕ, ◌+◌, ◌≤◌, true, List, [], ◌++◌, length, drop}
 use Rattle.window.specs.declared.Window.{Window}
 use Rattle.tagged_file.specs.Decoded.{Decoded, decoded}
