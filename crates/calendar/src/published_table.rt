@@ -2,17 +2,16 @@
 ghost use Rattle.std.specs.Prelude.{◌≡◌};
 ghost use Rattle.calendar.specs.Tables.{table_span, table_above};
 
-use crate::value_calendar::{LAST_REGIME, ValueCalendar};
+use crate::value_calendar::{REGIMES, ValueCalendar, admit};
 use fault::Fault;
-use fault::cause::Cause;
 
 // The quarter hours of 366 days.
 const QUARTERS: u32 = 35_136;
 
 // Eight quarters to a byte.
-const ROW_BYTES: usize = 4_392;
+pub const ROW_BYTES: usize = 4_392;
 
-const TABLE_BYTES: usize = (LAST_REGIME as usize + 1) * ROW_BYTES;
+pub const TABLE_BYTES: usize = REGIMES * ROW_BYTES;
 
 #[derive(Clone, Copy)]
 pub struct PublishedTable<'a> {
@@ -44,12 +43,7 @@ impl<'a> ValueCalendar for PublishedTable<'a> {
     ghost above = { λ t. table_above t.bytes.now };
 
     fn above_zero(&self, regime: u8, quarter: u32) -> Result<bool, Fault> {
-        if quarter >= self.span() {
-            return Err(Cause::QuarterPastSpan.at(quarter as u64));
-        }
-        if regime > LAST_REGIME {
-            return Err(Cause::RegimeUnknown.at(quarter as u64));
-        }
+        admit(self.span(), regime, quarter)?;
         let byte = self.bytes[regime as usize * ROW_BYTES + quarter as usize / 8];
         Ok(byte >> (quarter % 8) & 1 == 1)
     }
