@@ -2,6 +2,7 @@
 use Rattle.std.specs.Prelude.{◌≡◌, ℕ, ◌+◌, ◌-◌, ◌*◌, ◌/◌, min, Bool, cond, List, ◌==◌, slice_index}
 use Rattle.options.specs.declared.amounts.Amounts.{Amounts}
 use Rattle.delimitation.specs.declared.DelimitationOption.{DelimitationOption}
+use Rattle.options.specs.Counted.{sums_with}
 use Rattle.options.specs.Quarters.{Sums, Added, Marks}
 
 -- what the store took from the grid in a quarter: the smaller of what it took and what the site drew
@@ -24,14 +25,7 @@ abbrev pub marked_store_of : DelimitationOption → ℕ → ℕ
 marked_store_of o p = slice_index o.marked_store p
 
 abbrev pub sums_of : DelimitationOption → Sums
-sums_of o =
-    record {
-      site_power = o.site_power;
-      quarters = o.quarters;
-      draw = o.draw;
-      feed_in = o.feed_in;
-      marked = λ p. marked_direct_of o p + marked_store_of o p;
-    }
+sums_of o = sums_with o.taken (λ p. marked_direct_of o p + marked_store_of o p)
 
 -- the green part of an amount out of the store, by the year's charging: the amount times what the site's own plants charged, divided by all that was charged, rounded down.
 -- Where nothing was charged this divides by 0, which gives 0.
@@ -40,7 +34,7 @@ green o amount = amount * (o.store_in - o.grid_charging) / o.store_in
 
 -- the feed-in that came straight from the plants, and the green part of that out of the store
 abbrev pub base_of : DelimitationOption → ℕ
-base_of o = (o.feed_in - o.store_feed_in) + green o o.store_feed_in
+base_of o = (o.taken.feed_in - o.store_feed_in) + green o o.store_feed_in
 
 -- the part of the feed-in out of the store that is not green, and none where nothing was charged
 abbrev pub nettable_of : DelimitationOption → ℕ

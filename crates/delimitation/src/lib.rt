@@ -4,27 +4,22 @@
 ghost use Rattle.std.specs.Prelude.{◌≡◌, ℕ, ◌+◌, ◌*◌, ◌≤◌, length, slice_index_or};
 
 use options::settlement_option::PLACES;
+use options::taken::Taken;
 
 // In Wh. The marked sums are kept in two parts, what came straight from the plants and what came out of the store.
 #[derive(Drop)]
 pub struct DelimitationOption {
-    site_power: u32,
-    quarters: u32,
-    draw: u32,
-    feed_in: u32,
+    taken: Taken,
     store_in: u32,
     grid_charging: u32,
     store_feed_in: u32,
     marked_direct: [u32; PLACES],
     marked_store: [u32; PLACES],
-    ghost year: { quarters ≤ 35136 },
-    ghost drawn: { draw ≤ 50000 * quarters },
-    ghost fed: { feed_in ≤ 50000 * quarters },
-    ghost stored: { store_in ≤ 50000 * quarters },
+    ghost stored: { store_in ≤ 50000 * taken.quarters },
     ghost charged: { grid_charging ≤ store_in },
-    ghost discharged: { store_feed_in ≤ feed_in },
+    ghost discharged: { store_feed_in ≤ taken.feed_in },
     ghost direct_places: { length marked_direct ≡ 8 },
-    ghost direct_part: { ((p : ℕ) → slice_index_or marked_direct p 0 + store_feed_in ≤ feed_in) },
+    ghost direct_part: { ((p : ℕ) → slice_index_or marked_direct p 0 + store_feed_in ≤ taken.feed_in) },
     ghost store_places: { length marked_store ≡ 8 },
     ghost store_part: { ((p : ℕ) → slice_index_or marked_store p 0 ≤ store_feed_in) },
 }

@@ -1,17 +1,16 @@
 // The delimitation option: how it settles. Feed-in out of the store counts as the site's own as far as the site's own plants charged the store.
 ghost use Rattle.std.specs.Prelude.{◌≡◌, ◌≤◌};
 ghost use Rattle.delimitation.specs.Delimitation.{sums_of, green, base_of, nettable_of, unassigned_of, upper_of, Takes, marked_store_of};
-ghost use Rattle.std.proofs.Common.{arith, rules};
-ghost use Rattle.std.proofs.lemmas.Bool.Decides.{nat_tests};
+ghost use Rattle.std.proofs.Common.{rules};
 ghost use Rattle.delimitation.specs.Green.{green_within, green_empty, green_ordered};
 
 use crate::DelimitationOption;
 use crate::flows::{direct_feed_in, grid_charging, store_feed_in};
 use fault::Fault;
-use options::admission::admit;
 use options::amounts::Amounts;
 use options::marks::add_marked;
 use options::settlement_option::{PLACES, SettlementOption};
+use options::taken::Taken;
 
 // The most ordinary power of a site under delimitation, in W.
 const LIMIT: u32 = 200_000;
@@ -52,25 +51,25 @@ impl SettlementOption for DelimitationOption {
 
     ghost takes = { Takes };
 
-    ghost adds = { first_of (Prim.search rules, Prim.grind (arith, Self.row.coded.inj)) };
+    ghost adds = { Prim.search rules };
 
-    ghost whole = { λ o. Prim.grind (arith, nat_tests, green_within o o.store_feed_in, green_empty o o.store_feed_in) };
+    ghost whole = { Prim.search (rules, green_within, green_empty) };
 
-    ghost ordered = { λ o p h. omega (arith, o.direct_part p, green_ordered o (marked_store_of o p) o.store_feed_in (o.store_part p)) };
+    ghost ordered = { Prim.search (rules, green_ordered) };
 
-    ghost within = { λ o p h. omega (arith, green_within o o.store_feed_in) };
+    ghost within = { Prim.search (rules, green_within) };
 
-    ghost unmarked = { first_of (Prim.search rules, Prim.grind (arith, Self.row.coded.inj)) };
+    ghost unmarked = { Prim.search rules };
 
-    ghost fully_marked = { first_of (Prim.search rules, Prim.grind (arith, Self.row.coded.inj)) };
+    ghost fully_marked = { Prim.search rules };
 
-    ghost grounded = { first_of (Prim.search rules, Prim.grind (arith, Self.row.coded.inj)) };
+    ghost grounded = { Prim.search rules };
 
-    ghost year = { first_of (Prim.search rules, Prim.grind (arith, Self.row.coded.inj)) };
+    ghost year = { Prim.search rules };
 
-    ghost drawn = { first_of (Prim.search rules, Prim.grind (arith, Self.row.coded.inj)) };
+    ghost drawn = { Prim.search rules };
 
-    ghost fed = { first_of (Prim.search rules, Prim.grind (arith, Self.row.coded.inj)) };
+    ghost fed = { Prim.search rules };
 
     fn number() -> u8 {
         1
@@ -82,10 +81,7 @@ impl SettlementOption for DelimitationOption {
 
     fn start(site_power: u32) -> DelimitationOption {
         DelimitationOption {
-            site_power,
-            quarters: 0,
-            draw: 0,
-            feed_in: 0,
+            taken: Taken::nothing(site_power),
             store_in: 0,
             grid_charging: 0,
             store_feed_in: 0,
@@ -95,12 +91,9 @@ impl SettlementOption for DelimitationOption {
     }
 
     fn take(&mut self, amounts: Amounts, marks: [bool; PLACES]) -> Result<(), Fault> {
-        admit(self.quarters, &amounts)?;
+        let taken = self.taken.with(&amounts)?;
         *self = DelimitationOption {
-            site_power: self.site_power,
-            quarters: self.quarters + 1,
-            draw: self.draw + amounts.draw,
-            feed_in: self.feed_in + amounts.feed_in,
+            taken,
             store_in: self.store_in + amounts.store_in,
             grid_charging: self.grid_charging + grid_charging(&amounts),
             store_feed_in: self.store_feed_in + store_feed_in(&amounts),
@@ -110,20 +103,8 @@ impl SettlementOption for DelimitationOption {
         Ok(())
     }
 
-    fn site_power(&self) -> u32 {
-        self.site_power
-    }
-
-    fn quarters(&self) -> u32 {
-        self.quarters
-    }
-
-    fn draw(&self) -> u32 {
-        self.draw
-    }
-
-    fn feed_in(&self) -> u32 {
-        self.feed_in
+    fn taken(&self) -> &Taken {
+        &self.taken
     }
 
     fn marked(&self, place: usize) -> u32 {
@@ -135,7 +116,7 @@ impl SettlementOption for DelimitationOption {
     }
 
     fn base(&self) -> u32 {
-        self.feed_in - self.store_feed_in + self.green_part(self.store_feed_in)
+        self.taken.feed_in - self.store_feed_in + self.green_part(self.store_feed_in)
     }
 
     fn nettable(&self) -> u32 {

@@ -2,14 +2,14 @@
 ghost use Rattle.std.specs.Prelude.{◌-◌, min, get_or};
 ghost use Rattle.flat.specs.Flat.{sums_of, cap};
 ghost use Rattle.options.specs.Quarters.{Added};
-ghost use Rattle.std.proofs.Common.{rules, arith};
+ghost use Rattle.std.proofs.Common.{rules};
 
 use crate::FlatOption;
 use fault::Fault;
-use options::admission::admit;
 use options::amounts::Amounts;
 use options::marks::add_marked;
 use options::settlement_option::{PLACES, SettlementOption};
+use options::taken::Taken;
 
 // The most ordinary power of a flat site, in W.
 const LIMIT: u32 = 30_000;
@@ -24,37 +24,37 @@ impl SettlementOption for FlatOption {
 
     ghost sums = { sums_of };
 
-    ghost base = { λ o. min o.feed_in (cap o) };
+    ghost base = { λ o. min o.taken.feed_in (cap o) };
 
-    ghost nettable = { λ o. o.feed_in - cap o };
+    ghost nettable = { λ o. o.taken.feed_in - cap o };
 
     ghost unassigned = { λ _. 0 };
 
     ghost upper = { λ o p. get_or o.marked p 0 };
 
-    ghost lower = { λ o _. o.feed_in };
+    ghost lower = { λ o _. o.taken.feed_in };
 
     ghost takes = { λ o a marks p. Added (sums_of o) a marks (sums_of p) };
 
-    ghost adds = { first_of (Prim.search rules, Prim.grind (arith, Self.row.coded.inj)) };
+    ghost adds = { Prim.search rules };
 
-    ghost whole = { first_of (Prim.search rules, Prim.grind (arith, Self.row.coded.inj)) };
+    ghost whole = { Prim.search rules };
 
-    ghost ordered = { first_of (Prim.search rules, Prim.grind (arith, Self.row.coded.inj)) };
+    ghost ordered = { Prim.search rules };
 
-    ghost within = { first_of (Prim.search rules, Prim.grind (arith, Self.row.coded.inj)) };
+    ghost within = { Prim.search rules };
 
-    ghost unmarked = { first_of (Prim.search rules, Prim.grind (arith, Self.row.coded.inj)) };
+    ghost unmarked = { Prim.search rules };
 
-    ghost fully_marked = { first_of (Prim.search rules, Prim.grind (arith, Self.row.coded.inj)) };
+    ghost fully_marked = { Prim.search rules };
 
-    ghost grounded = { first_of (Prim.search rules, Prim.grind (arith, Self.row.coded.inj)) };
+    ghost grounded = { Prim.search rules };
 
-    ghost year = { first_of (Prim.search rules, Prim.grind (arith, Self.row.coded.inj)) };
+    ghost year = { Prim.search rules };
 
-    ghost drawn = { first_of (Prim.search rules, Prim.grind (arith, Self.row.coded.inj)) };
+    ghost drawn = { Prim.search rules };
 
-    ghost fed = { first_of (Prim.search rules, Prim.grind (arith, Self.row.coded.inj)) };
+    ghost fed = { Prim.search rules };
 
     fn number() -> u8 {
         0
@@ -66,61 +66,35 @@ impl SettlementOption for FlatOption {
 
     fn start(site_power: u32) -> FlatOption {
         FlatOption {
-            site_power,
-            quarters: 0,
-            draw: 0,
-            feed_in: 0,
+            taken: Taken::nothing(site_power),
             marked: [0; PLACES],
         }
     }
 
     fn take(&mut self, amounts: Amounts, marks: [bool; PLACES]) -> Result<(), Fault> {
-        admit(self.quarters, &amounts)?;
+        let taken = self.taken.with(&amounts)?;
         *self = FlatOption {
-            site_power: self.site_power,
-            quarters: self.quarters + 1,
-            draw: self.draw + amounts.draw,
-            feed_in: self.feed_in + amounts.feed_in,
+            taken,
             marked: add_marked(self.marked, marks, amounts.feed_in),
         };
         Ok(())
     }
 
-    fn site_power(&self) -> u32 {
-        self.site_power
-    }
-
-    fn quarters(&self) -> u32 {
-        self.quarters
-    }
-
-    fn draw(&self) -> u32 {
-        self.draw
-    }
-
-    fn feed_in(&self) -> u32 {
-        self.feed_in
+    fn taken(&self) -> &Taken {
+        &self.taken
     }
 
     fn marked(&self, place: usize) -> u32 {
-        if place < PLACES {
-            self.marked[place]
-        } else {
-            0
-        }
+        self.marked.get(place).copied().unwrap_or(0)
     }
 
     fn base(&self) -> u32 {
-        let cap = CAP_PER_WATT * self.site_power as u64;
-        if (self.feed_in as u64) < cap {
-            self.feed_in
-        } else {
-            cap as u32
-        }
+        let cap = CAP_PER_WATT * self.taken.site_power as u64;
+        cap.min(self.taken.feed_in as u64) as u32
     }
 
     fn nettable(&self) -> u32 {
-        self.feed_in - self.base()
+        self.taken.feed_in - self.base()
     }
 
     fn unassigned(&self) -> u32 {
@@ -128,10 +102,9 @@ impl SettlementOption for FlatOption {
     }
 
     fn pair(&self, place: usize) -> (u32, u32) {
-        if place < PLACES {
-            (self.marked[place], self.feed_in)
-        } else {
-            (0, 0)
+        match self.marked.get(place) {
+            Some(marked) => (*marked, self.taken.feed_in),
+            None => (0, 0),
         }
     }
 }

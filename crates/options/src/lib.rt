@@ -6,3 +6,4 @@ pub mod amounts;
 pub mod histories;
 pub mod marks;
 pub mod settlement_option;
+pub mod taken;

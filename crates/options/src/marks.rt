@@ -11,8 +11,8 @@ pub fn add_marked(sums: [u32; PLACES], marks: [bool; PLACES], amount: u32) -> [u
     ensures uncapped { ((p : ℕ) → slice_index sums p + amount ≤ 1756800000) → Marks sums marks amount result }
 {
     let mut next = sums;
-    for place in 0..PLACES {
-        if marks[place] {
+    for (place, marked) in marks.iter().enumerate() {
+        if *marked {
             next[place] = next[place].saturating_add(amount);
         }
     }
