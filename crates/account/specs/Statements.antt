@@ -1,6 +1,7 @@
 -- What a statement says, made from the option's answers, the plants and the contracts. Assumes nothing.
-use Rattle.std.specs.Prelude.{◌≡◌, ℕ, cond, List, [], ◌∷◌, map, Ok, Err, nat_lt, slice_index_or}
+use Rattle.std.specs.Prelude.{◌≡◌, ℕ, cond, List, [], ◌∷◌, length, map, is_some, Ok, Err, nat_lt, slice_index_or}
 use Rattle.std.specs.List.{range_with_len}
+use Rattle.std.specs.Option.{unwrap_or}
 use Rattle.fault.specs.declared.cause.Cause.TheVariants.{DraftUnfit, YearIncomplete}
 use Rattle.fault.specs.Questions.{Answer, asked}
 use Rattle.division.specs.Shares.{weights, share}
@@ -13,44 +14,44 @@ use Rattle.valuing.specs.Valued.{drawn, plant_lines, netted, totals}
 use Rattle.account.specs.declared.contract.Contract.{Contract}
 use Rattle.account.specs.declared.ledger.Ledger.{Ledger}
 use Rattle.account.specs.declared.year.Opened.{Opened}
-use Rattle.account.specs.Calls.{year_of, complete}
+use Rattle.account.specs.Calls.{complete}
 use Rattle.account.specs.SupplyContracts.{no_contract}
 
 -- netted feed-in divided over the contracts by draw
 abbrev pub contract_share : ℕ → Ledger → ℕ → ℕ
-contract_share netted l place = share netted (weights (λ (c : Contract). c.draw) l.contracts) place
+contract_share netted l place = share netted (weights (λ (c : Contract). c.draw) l.contracts.items) place
 
 abbrev pub contract_row : ℕ → Ledger → ℕ → ContractLine
 contract_row netted l place = record {
-  number = (slice_index_or l.contracts place no_contract).number;
-  draw = drawn (slice_index_or l.contracts place no_contract).draw (contract_share netted l place);
+  number = (slice_index_or l.contracts.items place no_contract).number;
+  draw = drawn (slice_index_or l.contracts.items place no_contract).draw (contract_share netted l place);
 }
 
 -- the line of each contract, blank where there is none
 abbrev pub contract_lines : ℕ → Ledger → List ContractLine
-contract_lines netted l = map (λ place. cond (nat_lt place l.begun) (contract_row netted l place) no_contract_line) (range_with_len 0 4)
+contract_lines netted l = map (λ place. cond (nat_lt place (length l.contracts.items)) (contract_row netted l place) no_contract_line) (range_with_len 0 4)
 
 -- the one rule of interim and final statements
 module _ {O : Type 0} (meaning : Meaning O) (a : Opened O) where
   abbrev pub settled : Standing → Statement
   settled standing = record {
-    year = year_of a.draft;
+    year = unwrap_or a.year 0;
     option = meaning.number;
     quarters = (meaning.sums a.option).quarters;
     standing = standing;
     totals = totals meaning a.option;
     plants = plant_lines meaning a.option a.draft.register;
-    plant_count = a.draft.register.count;
+    plant_count = length a.draft.register.plants.items;
     contracts = contract_lines (netted meaning a.option) a.ledger;
-    contract_count = a.ledger.begun;
+    contract_count = length a.ledger.contracts.items;
   }
 
   -- an interim statement, or the refusal at the next quarter
   abbrev pub interim : Answer
-  interim = asked a.ledger.entered ((a.fit, DraftUnfit) ∷ []) (Ok tt)
+  interim = asked a.ledger.entered ((is_some a.year, DraftUnfit) ∷ []) (Ok tt)
 
   abbrev pub finally : Answer
-  finally = asked a.ledger.entered ((a.fit, DraftUnfit) ∷ (complete a, YearIncomplete) ∷ []) (Ok tt)
+  finally = asked a.ledger.entered ((is_some a.year, DraftUnfit) ∷ (complete a, YearIncomplete) ∷ []) (Ok tt)
 
 -- the caller's statement after a call for one: filled, or as it was
 abbrev pub Fills : Answer → Answer → Statement → Statement → Statement → Type 0

@@ -1,8 +1,9 @@
--- A year's contracts, as rows of four places. Assumes nothing.
-use Rattle.std.specs.Prelude.{ℕ, Bool, List, sum_by, count_by, nat_eq, nat_lt}
+-- A year's contracts. Assumes nothing.
+use Rattle.std.specs.Prelude.{ℕ, Bool, List, sum_by, nat_eq}
+use Rattle.std.specs.List.{list_any}
 use Rattle.account.specs.declared.contract.Contract.{Contract}
 
--- what a place holds that no contract has taken
+-- no contract: it has no number and no draw
 abbrev pub no_contract : Contract
 no_contract = record { number = 0; draw = 0 }
 
@@ -12,4 +13,4 @@ draw_of = sum_by (λ c. c.draw)
 
 -- whether some contract has this number
 abbrev pub used : ℕ → List Contract → Bool
-used number cs = nat_lt 0 (count_by (λ c. nat_eq c.number number) cs)
+used number = list_any (λ c. nat_eq c.number number)

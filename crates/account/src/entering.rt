@@ -36,15 +36,13 @@ impl<O: SettlementOption> Opened<O> {
         ensures { Enters O.SettlementOption C.ValueCalendar calendar.now self.old quarter amounts result self.new }
     {
         let place = quarter as u64;
-        if !self.fit {
+        let Some(year) = self.year else {
             return Err(Cause::DraftUnfit.at(place));
-        }
-        if self.ledger.begun() == 0 {
+        };
+        if self.ledger.contracts().is_empty() {
             return Err(Cause::NoContract.at(place));
         }
-        if quarter != self.ledger.entered()
-            || quarter >= quarters_in(self.draft.year().unwrap_or(0))
-        {
+        if quarter != self.ledger.entered() || quarter >= quarters_in(year) {
             return Err(Cause::NotNextQuarter.at(place));
         }
         if !amounts.are_allowed() {

@@ -1,21 +1,71 @@
 // The ledger of an opened year: its contracts with their draw, and how many quarters were entered.
-ghost use Rattle.std.specs.Prelude.{◌≡◌, ℕ, ◌*◌, ◌≤◌, length, slice_index_or};
-ghost use Rattle.account.specs.SupplyContracts.{no_contract, draw_of};
+ghost use Rattle.std.specs.Prelude.{◌*◌, ◌<◌, ◌≤◌, length};
+ghost use Rattle.account.specs.SupplyContracts.{draw_of};
 
 use crate::contract::Contract;
+use arrayvec::ArrayVec;
 use statement::MOST_CONTRACTS;
 
-// The first `begun` places are taken, the latest contract last; a place that is not taken holds a contract with no number and no draw.
+// The latest contract stands last.
 #[derive(Drop)]
 pub struct Ledger {
-    contracts: [Contract; MOST_CONTRACTS],
-    begun: usize,
+    contracts: ArrayVec<Contract, MOST_CONTRACTS>,
     entered: u32,
-    ghost places: { length contracts ≡ 4 },
-    ghost few: { begun ≤ 4 },
+    ghost few: { length contracts.items ≤ 4 },
     ghost year: { entered ≤ 35136 },
-    ghost empty: { ((i : ℕ) → begun ≤ i → slice_index_or contracts i no_contract ≡ no_contract) },
-    ghost booked: { draw_of contracts ≤ 50000 * entered },
+    ghost booked: { draw_of contracts.items ≤ 50000 * entered },
 }
 
-pub mod booking;
+impl Ledger {
+    ghost use Rattle.std.specs.Prelude.{◌≡◌};
+    ghost use Rattle.account.specs.SupplyContracts.{used};
+    ghost use Rattle.account.specs.Ledgers.{Fresh, Begun, Booked};
+
+    pub(crate) fn new() -> Ledger
+        ensures { Fresh result }
+    {
+        Ledger {
+            contracts: ArrayVec::new(),
+            entered: 0,
+        }
+    }
+
+    // In the order of beginning.
+    pub(crate) fn contracts(&self) -> &ArrayVec<Contract, MOST_CONTRACTS>
+        ensures { result.now ≡ self.now.contracts }
+    {
+        &self.contracts
+    }
+
+    // How many quarters were entered, and so the number of the next.
+    pub(crate) fn entered(&self) -> u32
+        ensures { result ≡ self.now.entered }
+    {
+        self.entered
+    }
+
+    pub(crate) fn uses(&self, number: u32) -> bool
+        ensures { result ≡ used number self.now.contracts.items }
+    {
+        self.contracts
+            .iter()
+            .any(|contract| contract.number == number)
+    }
+
+    pub(crate) fn begin(&mut self, number: u32)
+        requires { length self.old.contracts.items < 4 }
+        ensures { Begun self.old number self.new }
+    {
+        self.contracts.push(Contract { number, draw: 0 });
+    }
+
+    // The draw goes to the contract begun last.
+    pub(crate) fn book(&mut self, draw: u32)
+        requires { (0 < length self.old.contracts.items) × ((self.old.entered < 35136) × (draw ≤ 50000)) }
+        ensures { Booked self.old draw self.new }
+    {
+        let last = self.contracts.len() - 1;
+        self.contracts[last].draw += draw;
+        self.entered += 1;
+    }
+}

@@ -16,9 +16,10 @@ use valuing::{draw_figures, plant_lines, totals_of};
 fn contract_lines(ledger: &Ledger, netted: u32) -> [ContractLine; MOST_CONTRACTS]
     ensures { result ≡ contract_lines netted ledger.now }
 {
-    let shares = divide(netted, ledger.places());
+    let contracts = ledger.contracts();
+    let shares = divide(netted, contracts);
     let mut lines = [NO_CONTRACT_LINE; MOST_CONTRACTS];
-    for (place, contract) in ledger.contracts().iter().enumerate() {
+    for (place, contract) in contracts.iter().enumerate() {
         lines[place] = ContractLine {
             number: contract.number,
             draw: draw_figures(contract.draw, shares[place]),
@@ -27,22 +28,23 @@ fn contract_lines(ledger: &Ledger, netted: u32) -> [ContractLine; MOST_CONTRACTS
     lines
 }
 
-fn settle<O: SettlementOption>(year: &Opened<O>, standing: Standing) -> Statement
-    ensures { result ≡ settled O.SettlementOption year.now standing }
+fn settle<O: SettlementOption>(opened: &Opened<O>, year: u16, standing: Standing) -> Statement
+    requires { opened.now.year ≡ Some year }
+    ensures { result ≡ settled O.SettlementOption opened.now standing }
 {
-    let option = &year.option;
-    let register = year.draft.register();
+    let option = &opened.option;
+    let register = opened.draft.register();
     let totals = totals_of(option);
     Statement {
-        year: year.draft.year().unwrap_or(0),
+        year,
         option: O::number(),
         quarters: option.quarters(),
         standing,
         totals,
         plants: plant_lines(option, register),
         plant_count: register.count(),
-        contracts: contract_lines(&year.ledger, totals.draw.netted),
-        contract_count: year.ledger.begun(),
+        contracts: contract_lines(&opened.ledger, totals.draw.netted),
+        contract_count: opened.ledger.contracts().len(),
     }
 }
 
@@ -51,10 +53,10 @@ impl<O: SettlementOption> Opened<O> {
     pub fn statement(&self, statement: &mut Statement) -> Result<(), Fault>
         ensures { Fills result (interim O.SettlementOption self.now) (settled O.SettlementOption self.now Interim) statement.old statement.new }
     {
-        if !self.fit {
+        let Some(year) = self.year else {
             return Err(Cause::DraftUnfit.at(self.ledger.entered() as u64));
-        }
-        *statement = settle(self, Standing::Interim);
+        };
+        *statement = settle(self, year, Standing::Interim);
         Ok(())
     }
 }
@@ -64,15 +66,14 @@ impl<O: SettlementOption> Closed<O> {
     pub fn statement(&self, statement: &mut Statement) -> Result<(), Fault>
         ensures { Fills result (finally O.SettlementOption self.now.last) (settled O.SettlementOption self.now.last Final) statement.old statement.new }
     {
-        let year = &self.last;
-        let next = year.ledger.entered();
-        if !year.fit {
-            return Err(Cause::DraftUnfit.at(next as u64));
+        let next = self.last.ledger.entered() as u64;
+        let Some(year) = self.last.year else {
+            return Err(Cause::DraftUnfit.at(next));
+        };
+        if !self.last.is_complete() {
+            return Err(Cause::YearIncomplete.at(next));
         }
-        if !year.is_complete() {
-            return Err(Cause::YearIncomplete.at(next as u64));
-        }
-        *statement = settle(year, Standing::Final);
+        *statement = settle(&self.last, year, Standing::Final);
         Ok(())
     }
 }

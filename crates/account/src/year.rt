@@ -14,7 +14,8 @@ use statement::MOST_CONTRACTS;
 #[derive(Drop)]
 pub struct Opened<O> {
     pub(crate) draft: Draft,
-    pub(crate) fit: bool,
+    // The year to settle, if the draft is fit.
+    pub(crate) year: Option<u16>,
     pub(crate) ledger: Ledger,
     pub(crate) option: O,
 }
@@ -30,11 +31,15 @@ impl<O: SettlementOption> Opened<O> {
     pub fn open(draft: Draft) -> Opened<O>
         ensures { Opens O.SettlementOption draft result }
     {
-        let fit = draft.check_fitness::<O>().is_ok();
+        let year = if draft.check_fitness::<O>().is_ok() {
+            draft.year()
+        } else {
+            None
+        };
         let power = draft.register().power();
         Opened {
             draft,
-            fit,
+            year,
             ledger: Ledger::new(),
             option: O::start(power),
         }
@@ -43,7 +48,7 @@ impl<O: SettlementOption> Opened<O> {
     pub fn begin_contract(&mut self, number: u32) -> Result<(), Fault>
         ensures { Begins self.old number result self.new }
     {
-        if !self.fit {
+        if self.year.is_none() {
             return Err(Cause::DraftUnfit.at(number as u64));
         }
         if number == 0 {
@@ -52,7 +57,7 @@ impl<O: SettlementOption> Opened<O> {
         if self.ledger.uses(number) {
             return Err(Cause::ContractNumberUsed.at(number as u64));
         }
-        if self.ledger.begun() >= MOST_CONTRACTS {
+        if self.ledger.contracts().is_full() {
             return Err(Cause::ContractsFull.at(number as u64));
         }
         self.ledger.begin(number);
@@ -63,7 +68,8 @@ impl<O: SettlementOption> Opened<O> {
     pub fn is_complete(&self) -> bool
         ensures { result ≡ complete self.now }
     {
-        self.ledger.entered() == quarters_in(self.draft.year().unwrap_or(0))
+        self.year
+            .is_some_and(|year| self.ledger.entered() == quarters_in(year))
     }
 
     pub fn close(self) -> Closed<O>

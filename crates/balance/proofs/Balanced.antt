@@ -1,7 +1,8 @@
 -- A statement made by the rule balances against every run that leads to its account. Assumes nothing.
-use Rattle.std.proofs.Common.{◌≡◌, ℕ, zero, suc, ◌+◌, ◌*◌, ◌/◌, ◌<◌, ◌≤◌, min, Bool, true, false, cond, ltb, List, [], ◌∷◌, map, get_or, take, sum, sym, refl, ap, ◌∙◌, subst, ⊎_elim, mul-zero, zero-mul, mul-div_cancel, arith}
+use Rattle.std.proofs.Common.{◌≡◌, ℕ, zero, suc, ◌+◌, ◌*◌, ◌/◌, ◌<◌, ◌≤◌, min, Bool, true, false, cond, ltb, List, [], ◌∷◌, map, length, get_or, is_some, take, sum, sym, refl, ap, ◌∙◌, subst, ⊎_elim, mul-zero, zero-mul, mul-div_cancel, arith}
 use native.Mathlib.Nat.{zero-div}
 use Rattle.std.specs.List.{range_with_len}
+use Rattle.std.proofs.lemmas.List.{length-map, get_or_past}
 use Rattle.std.proofs.lemmas.List.FromFn.{get_or-map-range_with_len}
 use Rattle.std.proofs.lemmas.List.Sums.{sum-map}
 use Rattle.std.proofs.lemmas.Bool.{cases_lt, cond-true, lt-ltb}
@@ -66,7 +67,7 @@ all_valued portion upper lower same grounded = ap (λ n. portion * n / lower) sa
     (cases_lt 0 lower)
 
 module _ {O C : Type 0} (meaning : Meaning O) (laws : Laws meaning) (calendar : Calendar C) (c : C) (calls : List Call) (a : Opened O)
-    (held : Held meaning calendar c laws.adds (plants calls) (contracts calls) (readings calls) a) (fit : a.fit ≡ true) where
+    (held : Held meaning calendar c laws.adds (plants calls) (contracts calls) (readings calls) a) (fit : is_some a.year ≡ true) where
   abbrev register : Register
   register = a.draft.register
 
@@ -74,35 +75,35 @@ module _ {O C : Type 0} (meaning : Meaning O) (laws : Laws meaning) (calendar : 
   ledger = a.ledger
 
   abbrev powers : List ℕ
-  powers = weights (λ (p : Plant). p.power) register.plants
+  powers = weights (λ (p : Plant). p.power) register.plants.items
 
   abbrev draws : List ℕ
-  draws = weights (λ (x : Contract). x.draw) ledger.contracts
+  draws = weights (λ (x : Contract). x.draw) ledger.contracts.items
 
   some_power : 0 < sum powers
-  some_power = omega (arith, sum-map (λ (p : Plant). p.power) register.plants, held.powered fit)
+  some_power = omega (arith, sum-map (λ (p : Plant). p.power) register.plants.items, held.powered fit)
 
   all_draws : sum draws ≡ (meaning.sums a.option).draw
-  all_draws = sum-map (λ (x : Contract). x.draw) ledger.contracts ∙ held.kept.all ∙ sym held.summed.draw
+  all_draws = sum-map (λ (x : Contract). x.draw) ledger.contracts.items ∙ held.kept.all ∙ sym held.summed.draw
 
   all_portions : (standing : Standing) → say.portions (settled meaning a standing) ≡ meaning.base a.option
-  all_portions standing = all_lines (λ (l : PlantLine). l.portion) (plant_row meaning a.option register) no_plant_line (meaning.base a.option) powers register.count (λ k inside. refl) 8 register.held
+  all_portions standing = all_lines (λ (l : PlantLine). l.portion) (plant_row meaning a.option register) no_plant_line (meaning.base a.option) powers (length register.plants.items) (λ k inside. refl) 8 register.held
       (λ none. absurd (omega (arith, some_power)))
-      (λ i past. weight_at (λ (p : Plant). p.power) register.plants no_plant i ∙ ap (λ (p : Plant). p.power) (register.empty i past))
+      (λ i past. get_or_past powers i 0 (omega (arith, length-map register.plants.items (λ (p : Plant). p.power), past)))
 
   all_netted : (standing : Standing) → say.netted (settled meaning a standing) ≡ netted meaning a.option
-  all_netted standing = all_lines (λ (l : ContractLine). l.draw.netted) (contract_row (netted meaning a.option) ledger) no_contract_line (netted meaning a.option) draws ledger.begun (λ k inside. refl) 4 ledger.few
+  all_netted standing = all_lines (λ (l : ContractLine). l.draw.netted) (contract_row (netted meaning a.option) ledger) no_contract_line (netted meaning a.option) draws (length ledger.contracts.items) (λ k inside. refl) 4 ledger.few
       (λ none. omega (arith, all_draws))
-      (λ i past. weight_at (λ (x : Contract). x.draw) ledger.contracts no_contract i ∙ ap (λ (x : Contract). x.draw) (ledger.empty i past))
+      (λ i past. get_or_past draws i 0 (omega (arith, length-map ledger.contracts.items (λ (x : Contract). x.draw), past)))
 
-  module _ (k : ℕ) (inside : k < register.count) where
+  module _ (k : ℕ) (inside : k < (length register.plants.items)) where
     abbrev row : PlantLine
     row = plant_row meaning a.option register k
 
     abbrev eight : k < 8
     eight = omega (arith, register.held)
 
-    plant_is : get_or register.plants k no_plant ≡ spelled (at no_entry (plants calls) k)
+    plant_is : get_or register.plants.items k no_plant ≡ spelled (at no_entry (plants calls) k)
     plant_is = held.registered.each k inside
 
     -- where the base is 0, so is every portion of it
@@ -114,19 +115,19 @@ module _ {O C : Type 0} (meaning : Meaning O) (laws : Laws meaning) (calendar : 
       marked = held.summed.marked k inside ∙ ap (λ (p : Plant). marked_for (calendar.above c) p.regime (readings calls)) plant_is;
       all_valued = λ all is_supported.
           let same = laws.fully_marked a.option k eight (all ∙ sym held.summed.feed_in) in
-          cond-true (supported (get_or register.plants k no_plant)) _ 0 (ap supported plant_is ∙ is_supported)
+          cond-true (supported (get_or register.plants.items k no_plant)) _ 0 (ap supported plant_is ∙ is_supported)
           ∙ all_valued row.portion (meaning.upper a.option k) (meaning.lower a.option k) same (λ none. no_portion (laws.grounded a.option k eight none));
       none_valued = λ none.
           let no_upper = laws.unmarked a.option k eight none in
-          cond_nothing (supported (get_or register.plants k no_plant)) _ (nothing_over (meaning.lower a.option k) (row.portion * meaning.upper a.option k) (ap (λ n. row.portion * n) no_upper ∙ mul-zero row.portion));
+          cond_nothing (supported (get_or register.plants.items k no_plant)) _ (nothing_over (meaning.lower a.option k) (row.portion * meaning.upper a.option k) (ap (λ n. row.portion * n) no_upper ∙ mul-zero row.portion));
     }
 
-  module _ (k : ℕ) (inside : k < ledger.begun) where
+  module _ (k : ℕ) (inside : k < (length ledger.contracts.items)) where
     contract_balances : ContractBalances calls k (contract_row (netted meaning a.option) ledger k)
     contract_balances =
-        let draw : (get_or ledger.contracts k no_contract).draw ≡ drawn_under k (readings calls) = held.kept.draws k in
-        let part : share (netted meaning a.option) draws k ≤ (get_or ledger.contracts k no_contract).draw =
-        omega (arith, within (netted meaning a.option) draws k (omega (arith, all_draws)), weight_at (λ (x : Contract). x.draw) ledger.contracts no_contract k) in
+        let draw : (get_or ledger.contracts.items k no_contract).draw ≡ drawn_under k (readings calls) = held.kept.draws k in
+        let part : share (netted meaning a.option) draws k ≤ (get_or ledger.contracts.items k no_contract).draw =
+        omega (arith, within (netted meaning a.option) draws k (omega (arith, all_draws)), weight_at (λ (x : Contract). x.draw) ledger.contracts.items no_contract k) in
         record {
           number = held.kept.numbers k inside;
           draw = draw;
@@ -139,10 +140,10 @@ module _ {O C : Type 0} (meaning : Meaning O) (laws : Laws meaning) (calendar : 
     netting = all_netted standing ∙ ap (λ n. min n (meaning.nettable a.option)) held.summed.draw;
     as_many_plants = held.registered.count;
     each_plant = λ k inside.
-        let here : k < register.count = omega (arith, held.registered.count) in
-        subst (PlantBalances (calendar.above c) calls (at no_entry (plants calls) k)) (sym (line_at (plant_row meaning a.option register) no_plant_line 8 register.count k register.held here)) (plant_balances k here);
+        let here : k < (length register.plants.items) = omega (arith, held.registered.count) in
+        subst (PlantBalances (calendar.above c) calls (at no_entry (plants calls) k)) (sym (line_at (plant_row meaning a.option register) no_plant_line 8 (length register.plants.items) k register.held here)) (plant_balances k here);
     as_many_contracts = held.kept.begun;
     each_contract = λ k inside.
-        let here : k < ledger.begun = omega (arith, held.kept.begun) in
-        subst (ContractBalances calls k) (sym (line_at (contract_row (netted meaning a.option) ledger) no_contract_line 4 ledger.begun k ledger.few here)) (contract_balances k here);
+        let here : k < (length ledger.contracts.items) = omega (arith, held.kept.begun) in
+        subst (ContractBalances calls k) (sym (line_at (contract_row (netted meaning a.option) ledger) no_contract_line 4 (length ledger.contracts.items) k ledger.few here)) (contract_balances k here);
   }

@@ -1,5 +1,5 @@
 -- Every statement that is given in a run balances. Assumes nothing.
-use Rattle.std.proofs.Common.{List, Ok, Err, sym, subst}
+use Rattle.std.proofs.Common.{List, is_some, Ok, Err, sym, subst}
 use Rattle.fault.specs.Questions.{Answer}
 use Rattle.calendar.specs.declared.value_calendar.ValueCalendar.{Ghosts as Calendar}
 use Rattle.options.specs.declared.settlement_option.SettlementOption.{Ghosts as Meaning}
@@ -18,14 +18,14 @@ module _ {O C : Type 0} (meaning : Meaning O) (laws : Laws meaning) (calendar : 
   pub given_interim : (calls : List Call) (a : Opened O) (r : Answer) (before after : Statement) → Fills r (interim meaning a) (settled meaning a Interim) before after
       → Leads meaning calendar c calls (opened a) → Given (calendar.above c) calls r after
   given_interim calls a (Ok _) before after (is, filled) l =
-      let fit = got_yes a.fit _ _ is in
+      let fit = got_yes (is_some a.year) _ _ is in
       subst (Balances (calendar.above c) calls) (sym filled) (balanced meaning laws calendar c calls a (reached meaning calendar c laws.adds l) fit.0 Interim)
   given_interim calls a (Err _) before after filled l = tt
 
   pub given_finally : (calls : List Call) (z : Closed O) (r : Answer) (before after : Statement) → Fills r (finally meaning z.last) (settled meaning z.last Final) before after
       → Leads meaning calendar c calls (closed z) → Given (calendar.above c) calls r after
   given_finally calls z (Ok _) before after (is, filled) l =
-      let fit = got_yes z.last.fit _ _ is in
+      let fit = got_yes (is_some z.last.year) _ _ is in
       subst (Balances (calendar.above c) calls) (sym filled) (balanced meaning laws calendar c calls z.last (reached meaning calendar c laws.adds l) fit.0 Final)
   given_finally calls z (Err _) before after filled l = tt
 

@@ -1,5 +1,5 @@
 -- What an account holds after any run that leads to it. Assumes nothing.
-use Rattle.std.proofs.Common.{◌≡◌, ℕ, ◌+◌, ◌<◌, Bool, true, false, cond, not, ltb, List, [], ◌∷◌, length, get_or, Ok, Err, sym, refl, ap, ◌∙◌, subst, arith}
+use Rattle.std.proofs.Common.{◌≡◌, ℕ, ◌+◌, ◌<◌, Bool, true, false, cond, ltb, List, [], ◌∷◌, length, get_or, is_some, Ok, Err, sym, refl, ap, ◌∙◌, subst, arith}
 use Rattle.std.proofs.lemmas.List.FromFn.{get_or-map-range_with_len}
 use Rattle.std.proofs.lemmas.Bool.{cond-true, lt-ltb, ltb-true}
 use Rattle.fault.specs.Questions.{Answer}
@@ -16,7 +16,7 @@ use Rattle.account.specs.declared.ledger.Ledger.{Ledger}
 use Rattle.account.specs.declared.year.Opened.{Opened}
 use Rattle.account.specs.Calls.{mark, marks, Opens, Begins, Enters}
 use Rattle.account.specs.Ledgers.{Fresh}
-use Rattle.account.specs.SupplyContracts.{used, draw_of}
+use Rattle.account.specs.SupplyContracts.{no_contract, draw_of}
 use Rattle.account.specs.declared.contract.Contract.{Contract}
 use Rattle.balance.specs.Runs.{Call, Account, drafted, opened, closed, Leads, begins_blank, sets, adds, checks, opens, begins, enters, closes, states_interim, states_finally, adding_plant, beginning_contract, entering_quarter}
 use Rattle.balance.specs.Brought.{Reading, plants, contracts, readings, fed_in, drawn, marked_for}
@@ -28,21 +28,21 @@ use Rattle.balance.proofs.Powered.{fit_power}
 pub record Summed (above : ℕ → ℕ → Bool) (rs : List Reading) (g : Register) (s : Sums) : Type 0 where
   pub draw : s.draw ≡ drawn rs
   pub feed_in : s.feed_in ≡ fed_in rs
-  pub marked : (k : ℕ) → k < g.count → s.marked k ≡ marked_for above (get_or g.plants k no_plant).regime rs
+  pub marked : (k : ℕ) → k < length g.plants.items → s.marked k ≡ marked_for above (get_or g.plants.items k no_plant).regime rs
 
 set_on : (ps : List PlantEntry) (d e : Draft) (year : ℕ) (r : Answer) → Sets d year r e → Registered ps d.register → Registered ps e.register
 set_on ps d e year (Ok _) s h = subst (Registered ps) (sym s.1.register) h
 set_on ps d e year (Err _) s h = subst (λ (x : Draft). Registered ps x.register) s.1 h
 
 add_on : (calls : List Call) (d e : Draft) (plant : PlantEntry) (r : Answer) → AddsPlant d plant r e → Registered (plants calls) d.register → Registered (plants (adding_plant plant r ∷ calls)) e.register
-add_on calls d e plant (Ok _) s h = registered_more (plants calls) d.register e.register plant (ltb-true d.register.count 8 (got_yes (ltb d.register.count 8) _ _ s.0).0) s.1.register h
+add_on calls d e plant (Ok _) s h = registered_more (plants calls) d.register e.register plant s.1.register h
 add_on calls d e plant (Err _) s h = subst (λ (x : Draft). Registered (plants calls) x.register) s.1 h
 
 fresh_kept : (l : Ledger) → Fresh l → Kept [] [] l
 fresh_kept l fresh = record {
-  begun = fresh.begun;
-  numbers = λ k inside. absurd (omega (arith, fresh.begun));
-  draws = λ k. ap (λ (c : Contract). c.draw) (l.empty k (omega (arith, fresh.begun)));
+  begun = ap length fresh.contracts;
+  numbers = λ k inside. absurd (omega (arith, ap length fresh.contracts));
+  draws = λ k. ap (λ cs. (get_or cs k no_contract).draw) fresh.contracts;
   all = ap draw_of fresh.contracts;
 }
 
@@ -53,7 +53,7 @@ module _ {O C : Type 0} (meaning : Meaning O) (calendar : Calendar C) (c : C)
     pub registered : Registered ps a.draft.register
     pub kept : Kept cs rs a.ledger
     pub summed : Summed (calendar.above c) rs a.draft.register (meaning.sums a.option)
-    pub powered : a.fit ≡ true → 0 < site_power_of a.draft.register.plants
+    pub powered : is_some a.year ≡ true → 0 < site_power_of a.draft.register.plants.items
 
   abbrev HeldAfter : List Call → Opened O → Type 0
   HeldAfter calls a = Held (plants calls) (contracts calls) (readings calls) a
@@ -67,31 +67,27 @@ module _ {O C : Type 0} (meaning : Meaning O) (calendar : Calendar C) (c : C)
         registered = subst (λ (x : Draft). Registered (plants calls) x.register) (sym o.draft) h;
         kept = fresh_kept a.ledger o.ledger;
         summed = started _ a.draft.register (meaning.sums a.option) o.option;
-        powered = λ fit. subst (λ (x : Draft). 0 < site_power_of x.register.plants) (sym o.draft) (fit_power meaning.limit d (sym o.fit ∙ fit));
+        powered = λ settled. subst (λ (x : Draft). 0 < site_power_of x.register.plants.items) (sym o.draft) (fit_power meaning.limit d (ap is_some (sym o.year) ∙ settled));
       } in
       subst (λ cs. Held (plants calls) cs (readings calls) a) (sym none) (subst (λ rs. Held (plants calls) [] rs a) (sym quiet) held)
 
   begin_on : (calls : List Call) (a b : Opened O) (number : ℕ) (r : Answer) → Begins a number r b → HeldAfter calls a → HeldAfter (beginning_contract number r ∷ calls) b
   begin_on calls a b number (Ok _) (is, begun) h =
-      let fit = got_yes a.fit _ _ is in
-      let numbered = got_yes (ltb 0 number) _ _ fit.1 in
-      let unused = got_yes (not (used number a.ledger.contracts)) _ _ numbered.1 in
-      let room = got_yes (ltb a.ledger.begun 4) _ _ unused.1 in
       let summed : Summed (calendar.above c) (readings calls) a.draft.register (meaning.sums b.option) =
       subst (λ (o : O). Summed (calendar.above c) (readings calls) a.draft.register (meaning.sums o)) (sym begun.option) h.summed in
       record {
         registered = subst (λ (d : Draft). Registered (plants calls) d.register) (sym begun.draft) h.registered;
-        kept = kept_begun (contracts calls) (readings calls) a.ledger b.ledger h.kept number (ltb-true a.ledger.begun 4 room.0) begun.ledger;
+        kept = kept_begun (contracts calls) (readings calls) a.ledger b.ledger h.kept number begun.ledger;
         summed = subst (λ (d : Draft). Summed (calendar.above c) (readings calls) d.register (meaning.sums b.option)) (sym begun.draft) summed;
-        powered = λ is_fit. subst (λ (d : Draft). 0 < site_power_of d.register.plants) (sym begun.draft) (h.powered (sym begun.fit ∙ is_fit));
+        powered = λ settled. subst (λ (d : Draft). 0 < site_power_of d.register.plants.items) (sym begun.draft) (h.powered (ap is_some (sym begun.year) ∙ settled));
       }
   begin_on calls a b number (Err _) (is, same) h = subst (HeldAfter calls) same h
 
   -- a place of a plant is marked as the calendar says of its regime
-  marked_place : (g : Register) (quarter k : ℕ) → k < g.count → get_or (marks calendar c g quarter) k false ≡ mark calendar c g quarter k
+  marked_place : (g : Register) (quarter k : ℕ) → k < length g.plants.items → get_or (marks calendar c g quarter) k false ≡ mark calendar c g quarter k
   marked_place g quarter k inside =
-      get_or-map-range_with_len (λ place. cond (ltb place g.count) (mark calendar c g quarter place) false) 0 8 k k false (omega (arith, g.held)) (omega arith)
-      ∙ cond-true (ltb k g.count) (mark calendar c g quarter k) false (lt-ltb k g.count inside)
+      get_or-map-range_with_len (λ place. cond (ltb place (length g.plants.items)) (mark calendar c g quarter place) false) 0 8 k k false (omega (arith, g.held)) (omega arith)
+      ∙ cond-true (ltb k (length g.plants.items)) (mark calendar c g quarter k) false (lt-ltb k (length g.plants.items) inside)
 
   summed_more : (rs : List Reading) (g : Register) (s t : Sums) (quarter contract : ℕ) (amounts : Amounts) → Added s amounts (marks calendar c g quarter) t
       → Summed (calendar.above c) rs g s → Summed (calendar.above c) (record { quarter = quarter; amounts = amounts; contract = contract } ∷ rs) g t
@@ -106,16 +102,16 @@ module _ {O C : Type 0} (meaning : Meaning O) (calendar : Calendar C) (c : C)
 
   enter_on : (calls : List Call) (a b : Opened O) (quarter : ℕ) (amounts : Amounts) (r : Answer) → Enters meaning calendar c a quarter amounts r b → HeldAfter calls a → HeldAfter (entering_quarter quarter amounts r ∷ calls) b
   enter_on calls a b quarter amounts (Ok _) (is, entered) h =
-      let fit = got_yes a.fit _ _ is in
-      let begun = got_yes (ltb 0 a.ledger.begun) _ _ fit.1 in
+      let fit = got_yes (is_some a.year) _ _ is in
+      let begun = got_yes (ltb 0 (length a.ledger.contracts.items)) _ _ fit.1 in
       let reading : Reading = record { quarter = quarter; amounts = amounts; contract = length (contracts calls) } in
       let summed : Summed (calendar.above c) (reading ∷ readings calls) a.draft.register (meaning.sums b.option) =
       summed_more (readings calls) a.draft.register (meaning.sums a.option) (meaning.sums b.option) quarter (length (contracts calls)) amounts (adds_up a.option b.option amounts _ entered.option) h.summed in
       record {
         registered = subst (λ (d : Draft). Registered (plants calls) d.register) (sym entered.draft) h.registered;
-        kept = kept_booked (contracts calls) (readings calls) a.ledger b.ledger h.kept quarter amounts (ltb-true 0 a.ledger.begun begun.0) entered.ledger;
+        kept = kept_booked (contracts calls) (readings calls) a.ledger b.ledger h.kept quarter amounts (ltb-true 0 (length a.ledger.contracts.items) begun.0) entered.ledger;
         summed = subst (λ (d : Draft). Summed (calendar.above c) (reading ∷ readings calls) d.register (meaning.sums b.option)) (sym entered.draft) summed;
-        powered = λ is_fit. subst (λ (d : Draft). 0 < site_power_of d.register.plants) (sym entered.draft) (h.powered (sym entered.fit ∙ is_fit));
+        powered = λ settled. subst (λ (d : Draft). 0 < site_power_of d.register.plants.items) (sym entered.draft) (h.powered (ap is_some (sym entered.year) ∙ settled));
       }
   enter_on calls a b quarter amounts (Err _) (is, same) h = subst (HeldAfter calls) same h
 
@@ -125,7 +121,7 @@ module _ {O C : Type 0} (meaning : Meaning O) (calendar : Calendar C) (c : C)
   Reached calls (closed z) = HeldAfter calls z.last
 
   pub reached : {calls : List Call} {account : Account O} → Leads meaning calendar c calls account → Reached calls account
-  reached (begins_blank blank) = (record { count = blank.register.count; each = λ k inside. absurd (omega (arith, blank.register.count)) }, refl, refl)
+  reached (begins_blank blank) = (record { count = ap length blank.register.plants; each = λ k inside. absurd (omega (arith, ap length blank.register.plants)) }, refl, refl)
   reached (sets {calls} l s) = let h = reached l in (set_on (plants calls) _ _ _ _ s h.0, h.1, h.2)
   reached (adds {calls} l s) = let h = reached l in (add_on calls _ _ _ _ s h.0, h.1, h.2)
   reached (checks limit l e) = reached l

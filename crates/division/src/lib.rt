@@ -4,6 +4,8 @@
 ghost use Rattle.std.specs.Prelude.{◌≡◌, ℕ, ◌*◌, ◌/◌, ◌^◌, ◌<◌, ◌≤◌, sum};
 ghost use Rattle.division.specs.Shares.{weights, Divided};
 
+use arrayvec::ArrayVec;
+
 // A row that takes part in a division.
 pub trait Weighted {
     ghost weight: { Self → ℕ };
@@ -36,17 +38,18 @@ fn part(amount: u32, some: u128, all: u128) -> u32
 }
 
 // Each row gets what the rows up to and with it get together, less what the rows before it got, so that rounding loses nothing.
-pub fn divide<R: Weighted, const N: usize>(amount: u32, rows: &[R; N]) -> [u32; N]
-    ensures { Divided amount (weights R.Weighted.weight rows.now) result }
+pub fn divide<R: Weighted, const N: usize>(amount: u32, rows: &ArrayVec<R, N>) -> ArrayVec<u32, N>
+    ensures { Divided amount (weights R.Weighted.weight rows.now.items) result.items }
 {
+    let rows = rows.as_slice();
     let all = all_weights(rows);
-    let mut shares = [0; N];
+    let mut shares = ArrayVec::new();
     let mut weights_so_far: u128 = 0;
     let mut given = 0;
-    for (place, row) in rows.iter().enumerate() {
+    for row in rows {
         weights_so_far += row.weight() as u128;
         let together = part(amount, weights_so_far, all);
-        shares[place] = together - given;
+        shares.push(together - given);
         given = together;
     }
     shares

@@ -40,4 +40,4 @@ fit_for limit year plants = asked 0 (
     ∷ []) (Ok tt)
 
 abbrev pub fitness : ℕ → Draft → Answer
-fitness limit d = fit_for limit d.year d.register.plants
+fitness limit d = fit_for limit d.year d.register.plants.items

@@ -1,5 +1,6 @@
--- A site's plants, as rows of eight places. Assumes nothing.
-use Rattle.std.specs.Prelude.{ℕ, Bool, true, false, cond, ◌&&◌, List, Some, None, sum_by, count_by, Option, ◌==◌, nat_le, nat_lt}
+-- A site's plants. Assumes nothing.
+use Rattle.std.specs.Prelude.{ℕ, Bool, true, false, cond, ◌&&◌, List, Some, None, sum_by, Option, ◌==◌, nat_le}
+use Rattle.std.specs.List.{list_any}
 use Rattle.site.specs.declared.plant.Kind.{Kind}
 use Rattle.site.specs.declared.plant.Kind.TheVariants.{Ordinary, PlugIn}
 use Rattle.site.specs.declared.plant.Marketing.{Marketing}
@@ -7,7 +8,7 @@ use Rattle.site.specs.declared.plant.Marketing.TheVariants.{Other, MarketPremium
 use Rattle.site.specs.declared.plant.Plant.{Plant}
 use Rattle.site.specs.declared.plant.PlantEntry.{PlantEntry}
 
--- what a place holds that no plant has taken
+-- no plant, of no power
 abbrev pub no_plant : Plant
 no_plant = record { power = 0; kind = Ordinary; marketing = Other; regime = 0 }
 
@@ -37,18 +38,24 @@ abbrev pub supported : Plant → Bool
 supported p = by_market_premium p.marketing
 
 abbrev pub some_supported : List Plant → Bool
-some_supported ps = nat_lt 0 (count_by supported ps)
+some_supported = list_any supported
 
 -- kind 0 or 1, marketing 0 or 1, regime 0 to 7
 abbrev pub codes_known : PlantEntry → Bool
 codes_known e = nat_le e.kind 1 && (nat_le e.marketing 1 && nat_le e.regime 7)
 
+abbrev pub kind_of : ℕ → Kind
+kind_of code = cond (code == 0) Ordinary PlugIn
+
+abbrev pub marketing_of : ℕ → Marketing
+marketing_of code = cond (code == 0) MarketPremium Other
+
 -- the plant that known codes spell
 abbrev pub spelled : PlantEntry → Plant
 spelled e = record {
   power = e.power;
-  kind = cond (e.kind == 0) Ordinary PlugIn;
-  marketing = cond (e.marketing == 0) MarketPremium Other;
+  kind = kind_of e.kind;
+  marketing = marketing_of e.marketing;
   regime = e.regime;
 }
 

@@ -1,24 +1,26 @@
 // A plant of the site.
-ghost use Rattle.std.specs.Prelude.{◌≡◌};
-ghost use Rattle.site.specs.Plants.{power_of, supported, entered};
+ghost use Rattle.std.specs.Prelude.{◌≡◌, ◌<◌, ◌≤◌, Some, None, MatchResult};
+ghost use Rattle.site.specs.Plants.{power_of, supported, kind_of, marketing_of, entered};
 
 use division::Weighted;
 
-#[derive(Clone, Copy, PartialEq, Debug)]
+#[derive(Clone, Copy, PartialEq, Debug, Default)]
 pub enum Kind {
+    #[default]
     Ordinary,
     PlugIn,
 }
 
-#[derive(Clone, Copy, PartialEq, Debug)]
+#[derive(Clone, Copy, PartialEq, Debug, Default)]
 pub enum Marketing {
     // Direct marketing without support.
+    #[default]
     Other,
     // Supported by the market premium.
     MarketPremium,
 }
 
-#[derive(Clone, Copy, PartialEq, Debug)]
+#[derive(Clone, Copy, PartialEq, Debug, Default)]
 pub struct Plant {
     // In W peak.
     pub power: u32,
@@ -37,6 +39,10 @@ pub struct PlantEntry {
     pub regime: u8,
 }
 
+// A code that stands for no kind, no marketing or no regime.
+#[derive(Clone, Copy, PartialEq, Debug)]
+pub struct UnknownCode;
+
 const LAST_REGIME: u8 = 7;
 
 // Base is divided over plants by power.
@@ -53,45 +59,61 @@ impl Plant {
     pub fn power_of(&self, kind: Kind) -> u32
         ensures { result ≡ power_of kind self.now }
     {
-        match (self.kind, kind) {
-            (Kind::Ordinary, Kind::Ordinary) | (Kind::PlugIn, Kind::PlugIn) => self.power,
-            _ => 0,
-        }
+        if self.kind == kind { self.power } else { 0 }
     }
 
     pub fn is_supported(&self) -> bool
         ensures { result ≡ supported self.now }
     {
-        match self.marketing {
-            Marketing::MarketPremium => true,
-            Marketing::Other => false,
+        self.marketing == Marketing::MarketPremium
+    }
+}
+
+impl TryFrom<u8> for Kind {
+    type Error = UnknownCode;
+
+    ghost try_from_gives = { λ code r. MatchResult r (λ kind. (code ≤ 1) × (kind ≡ kind_of code)) (λ _. 1 < code) };
+
+    fn try_from(code: u8) -> Result<Kind, UnknownCode> {
+        match code {
+            0 => Ok(Kind::Ordinary),
+            1 => Ok(Kind::PlugIn),
+            _ => Err(UnknownCode),
         }
     }
 }
 
-impl PlantEntry {
-    // The plant, if kind, marketing and regime are in range.
-    pub fn plant(self) -> Option<Plant>
-        ensures { result ≡ entered self }
-    {
-        let kind = match self.kind {
-            0 => Kind::Ordinary,
-            1 => Kind::PlugIn,
-            _ => return None,
-        };
-        let marketing = match self.marketing {
-            0 => Marketing::MarketPremium,
-            1 => Marketing::Other,
-            _ => return None,
-        };
-        if self.regime > LAST_REGIME {
-            return None;
+impl TryFrom<u8> for Marketing {
+    type Error = UnknownCode;
+
+    ghost try_from_gives = { λ code r. MatchResult r (λ marketing. (code ≤ 1) × (marketing ≡ marketing_of code)) (λ _. 1 < code) };
+
+    fn try_from(code: u8) -> Result<Marketing, UnknownCode> {
+        match code {
+            0 => Ok(Marketing::MarketPremium),
+            1 => Ok(Marketing::Other),
+            _ => Err(UnknownCode),
         }
-        Some(Plant {
-            power: self.power,
+    }
+}
+
+// The plant that an entry spells, if kind, marketing and regime are in range.
+impl TryFrom<PlantEntry> for Plant {
+    type Error = UnknownCode;
+
+    ghost try_from_gives = { λ entry r. MatchResult r (λ plant. entered entry ≡ Some plant) (λ _. entered entry ≡ None) };
+
+    fn try_from(entry: PlantEntry) -> Result<Plant, UnknownCode> {
+        let kind = Kind::try_from(entry.kind)?;
+        let marketing = Marketing::try_from(entry.marketing)?;
+        if entry.regime > LAST_REGIME {
+            return Err(UnknownCode);
+        }
+        Ok(Plant {
+            power: entry.power,
             kind,
             marketing,
-            regime: self.regime,
+            regime: entry.regime,
         })
     }
 }

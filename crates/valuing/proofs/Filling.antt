@@ -1,5 +1,5 @@
 -- A loop that fills the first places of a row of n, blank before. Assumes nothing.
-use Rattle.std.proofs.Common.{◌≡◌, ℕ, ◌+◌, ◌<◌, ◌≤◌, cond, ltb, ◌≢◌, List, map, length, get_or, take, set, sym, ap, ◌∙◌, ⊎_elim, arith, length-set, length-take-le, get_or-set_other, get_or-take, get_or-set_same}
+use Rattle.std.proofs.Common.{◌≡◌, ℕ, ◌+◌, ◌<◌, ◌≤◌, cond, ltb, ◌≢◌, List, map, length, get_or, set, sym, ap, ◌∙◌, ⊎_elim, arith, length-set, get_or-set_other, get_or-set_same}
 use Rattle.std.specs.List.{range_with_len}
 use Rattle.std.proofs.lemmas.List.FromFn.{fill_by_all}
 use Rattle.std.proofs.lemmas.Bool.{cases_eq, cases_lt, cond-true, cond-false, lt-ltb, le-ltb}
@@ -28,11 +28,3 @@ module _ {X : Type 0} (f : ℕ → X) (blank : X) (n : ℕ) where
       (λ below. h.front k below ∙ sym (cond-true (ltb k count) (f k) blank (lt-ltb k count below)))
       (λ past. h.rest k past ∙ sym (cond-false (ltb k count) (f k) blank (le-ltb k count past)))
       (cases_lt k count))
-
--- a loop over the first n rows
-module _ {X : Type 0} (rows items : List X) (n : ℕ) (fits : n ≤ length rows) (first : items ≡ take n rows) where
-  pub items_count : length items ≡ n
-  items_count = ap length first ∙ length-take-le n rows fits
-
-  pub item_row : (k : ℕ) (d : X) → k < length items → get_or items k d ≡ get_or rows k d
-  item_row k d l = ap (λ xs. get_or xs k d) first ∙ get_or-take n rows k d (omega (arith, items_count))

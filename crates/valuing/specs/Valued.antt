@@ -1,5 +1,5 @@
 -- What becomes of a year's draw and feed-in: the totals, and each plant's portion with the part of it that is valued. Assumes nothing.
-use Rattle.std.specs.Prelude.{ℕ, ◌-◌, ◌*◌, ◌/◌, min, cond, List, map, nat_lt, slice_index_or}
+use Rattle.std.specs.Prelude.{ℕ, ◌-◌, ◌*◌, ◌/◌, min, cond, List, map, length, nat_lt, slice_index_or}
 use Rattle.std.specs.List.{range_with_len}
 use Rattle.division.specs.Shares.{weights, share}
 use Rattle.options.specs.declared.settlement_option.SettlementOption.{Ghosts as Meaning}
@@ -35,14 +35,14 @@ module _ {O : Type 0} (meaning : Meaning O) (o : O) where
 
   -- base divided over the plants by power
   abbrev pub portion : Register → ℕ → ℕ
-  portion g place = share (meaning.base o) (weights (λ (p : Plant). p.power) g.plants) place
+  portion g place = share (meaning.base o) (weights (λ (p : Plant). p.power) g.plants.items) place
 
   abbrev pub plant_row : Register → ℕ → PlantLine
-  plant_row g place = line (slice_index_or g.plants place no_plant) place (portion g place)
+  plant_row g place = line (slice_index_or g.plants.items place no_plant) place (portion g place)
 
   -- the line of each plant, blank where there is none
   abbrev pub plant_lines : Register → List PlantLine
-  plant_lines g = map (λ place. cond (nat_lt place g.count) (plant_row g place) no_plant_line) (range_with_len 0 8)
+  plant_lines g = map (λ place. cond (nat_lt place (length g.plants.items)) (plant_row g place) no_plant_line) (range_with_len 0 8)
 
   -- the smaller of draw and nettable feed-in is netted
   abbrev pub netted : ℕ

@@ -1,53 +1,52 @@
-use Rattle.std.proofs.Common.{◌≡◌, ◌+◌, ◌<◌, ◌≢◌, length, take, sum, sym, refl, arith, get_or-set_other, get_or-set_same, below_none, below_more}
-use Rattle.std.proofs.lemmas.List.{length-map, length-set, length-replicate}
-use Rattle.division.specs.Shares.{weights, together}
+use Rattle.std.proofs.Common.{◌≡◌, ◌+◌, length, get_or, sym, refl, ap, ◌∙◌, rules, arith}
+use Rattle.std.proofs.lemmas.List.{length-map}
+use Rattle.std.proofs.lemmas.List.FromFn.{length-map-range_with_len, get_or-map-range_with_len, map-range_with_len_more}
+use Rattle.division.specs.Shares.{weights, together, share}
 use Rattle.division.proofs.Sums.{weights_more}
 use Rattle.division.proofs.Laws.{together_none, together_more, divided}
-use Rattle.division.proofs.divide.Given as given
 use Rattle.division.proofs.divide.Goals as goal
 
 pub overflow_add-weights_so_far : goal.overflow_add-weights_so_far
 overflow_add-weights_so_far g c =
-    let more = weights_more g.R.Weighted.weight c.args.rows.now c.loop-place.place c.index-rows-place.result _ _ (omega arith) c.loop-place.invariant.0 c.weight.ensures in
+    let more = weights_more g.R.Weighted.weight c.as_slice-rows.result.now c.loop-row.row-index c.row-item.result _ _ (omega arith) c.loop-row.invariant.0 (c.weight.ensures ∙ ap g.R.Weighted.weight c.row-item.is) in
     omega arith
 
 pub part-together-requires : goal.part-together-requires
 part-together-requires g c =
-    let more = weights_more g.R.Weighted.weight c.args.rows.now c.loop-place.place c.index-rows-place.result _ _ (omega arith) c.loop-place.invariant.0 c.weight.ensures in
+    let more = weights_more g.R.Weighted.weight c.as_slice-rows.result.now c.loop-row.row-index c.row-item.result _ _ (omega arith) c.loop-row.invariant.0 (c.weight.ensures ∙ ap g.R.Weighted.weight c.row-item.is) in
     (omega arith, omega arith)
 
--- the weights up to and with this row, and what these rows get together
-reaches : (g : given.Over) (c : goal.After-part-together g) → let ws = weights g.R.Weighted.weight c.args.rows.now in
-    (c.loop-place.weights_so_far + c.weight.result ≡ sum (take (c.loop-place.place + 1) ws))
-    × (c.part-together.result ≡ together c.args.amount ws (c.loop-place.place + 1))
-reaches g c =
-    let more = weights_more g.R.Weighted.weight c.args.rows.now c.loop-place.place c.index-rows-place.result _ _ (omega arith) c.loop-place.invariant.0 c.weight.ensures in
+pub overflow_sub-together : goal.overflow_sub-together
+overflow_sub-together g c =
+    let ws = weights g.R.Weighted.weight c.as_slice-rows.result.now in
+    let more = weights_more g.R.Weighted.weight c.as_slice-rows.result.now c.loop-row.row-index c.row-item.result _ _ (omega arith) c.loop-row.invariant.0 (c.weight.ensures ∙ ap g.R.Weighted.weight c.row-item.is) in
     let is = more.0 in
-    (is, cc)
+    let reaches : c.part-together.result ≡ together c.args.amount ws (c.loop-row.row-index + 1) = cc in
+    omega (arith, reaches, together_more c.args.amount ws c.loop-row.row-index)
 
-pub overflow_sub-shares : goal.overflow_sub-shares
-overflow_sub-shares g c =
-    omega (arith, (reaches g c).1, together_more c.args.amount (weights g.R.Weighted.weight c.args.rows.now) c.loop-place.place)
+pub push-requires : goal.push-requires
+push-requires g c =
+    let long = length-map-range_with_len (share c.args.amount (weights g.R.Weighted.weight c.as_slice-rows.result.now)) 0 c.loop-row.row-index in
+    search rules
 
-pub loop-place-init : goal.loop-place-init
-loop-place-init g c =
-    let n : length c.args.rows.now ≡ g.row.N = omega arith in
-    (refl, sym (together_none c.args.amount (weights g.R.Weighted.weight c.args.rows.now)), simp (length-map, length-replicate) (sym n), below_none _)
+pub loop-row-init : goal.loop-row-init
+loop-row-init g c = (refl, sym (together_none c.args.amount (weights g.R.Weighted.weight c.as_slice-rows.result.now)), search rules)
 
-pub loop-place-preserved : goal.loop-place-preserved
-loop-place-preserved g c =
-    let i = c.loop-place.place in
-    let inside : i < length c.loop-place.shares = rw (c.loop-place.invariant.2, length-map) (omega arith) in (
-      (reaches g c).0,
-      (reaches g c).1,
-      simp length-set c.loop-place.invariant.2,
-      below_more _ i
-          (λ k h. let ne : k ≢ i = omega arith in rw get_or-set_other (c.loop-place.invariant.3 k h))
-          (rw get_or-set_same (omega (arith, (reaches g c).1))),
-    )
+pub loop-row-preserved : goal.loop-row-preserved
+loop-row-preserved g c =
+    let ws = weights g.R.Weighted.weight c.as_slice-rows.result.now in
+    let i = c.loop-row.row-index in
+    let more = weights_more g.R.Weighted.weight c.as_slice-rows.result.now i c.row-item.result _ _ (omega arith) c.loop-row.invariant.0 (c.weight.ensures ∙ ap g.R.Weighted.weight c.row-item.is) in
+    let is = more.0 in
+    let reaches : c.part-together.result ≡ together c.args.amount ws (i + 1) = cc in
+    let one_more = map-range_with_len_more (share c.args.amount ws) 0 i i (omega arith) in
+    (is, reaches, cc)
 
 pub returns : goal.returns
 returns g c =
-    let ws = weights g.R.Weighted.weight c.args.rows.now in
-    let n : length ws ≡ g.row.N = simp length-map (omega arith) in
-    divided c.args.amount ws c.loop-place.shares c.loop-place.invariant.2 (λ k h. c.loop-place.invariant.3 k (omega arith))
+    let ws = weights g.R.Weighted.weight c.as_slice-rows.result.now in
+    let i = c.loop-row.row-index in
+    let n : length ws ≡ i = simp length-map (omega arith) in
+    let d = divided c.args.amount ws c.loop-row.shares.items (ap length c.loop-row.invariant.2 ∙ length-map-range_with_len (share c.args.amount ws) 0 i ∙ sym n)
+    (λ k h. ap (λ xs. get_or xs k 0) c.loop-row.invariant.2 ∙ get_or-map-range_with_len (share c.args.amount ws) 0 i k k 0 (omega arith) (omega arith)) in
+    rw (← c.as_slice-rows.ensures.value) d
