@@ -5,25 +5,26 @@ ghost use Rattle.figures.specs.declared.lines.Standing.TheVariants.{Interim, Fin
 
 use crate::ledger::Ledger;
 use crate::year::{Closed, Opened};
+use arrayvec::ArrayVec;
 use division::divide;
 use fault::Fault;
 use fault::cause::Cause;
-use figures::lines::{ContractLine, NO_CONTRACT_LINE, Standing};
+use figures::lines::{ContractLine, Standing};
 use options::settlement_option::SettlementOption;
 use statement::{MOST_CONTRACTS, Statement};
 use valuing::{draw_figures, plant_lines, totals_of};
 
-fn contract_lines(ledger: &Ledger, netted: u32) -> [ContractLine; MOST_CONTRACTS]
-    ensures { result ≡ contract_lines netted ledger.now }
+fn contract_lines(ledger: &Ledger, netted: u32) -> ArrayVec<ContractLine, MOST_CONTRACTS>
+    ensures { result.items ≡ contract_lines netted ledger.now }
 {
     let contracts = ledger.contracts();
     let shares = divide(netted, contracts);
-    let mut lines = [NO_CONTRACT_LINE; MOST_CONTRACTS];
+    let mut lines = ArrayVec::new();
     for (place, contract) in contracts.iter().enumerate() {
-        lines[place] = ContractLine {
+        lines.push(ContractLine {
             number: contract.number,
             draw: draw_figures(contract.draw, shares[place]),
-        };
+        });
     }
     lines
 }
@@ -33,7 +34,6 @@ fn settle<O: SettlementOption>(opened: &Opened<O>, year: u16, standing: Standing
     ensures { result ≡ settled O.SettlementOption opened.now standing }
 {
     let option = &opened.option;
-    let register = opened.draft.register();
     let totals = totals_of(option);
     Statement {
         year,
@@ -41,10 +41,8 @@ fn settle<O: SettlementOption>(opened: &Opened<O>, year: u16, standing: Standing
         quarters: option.quarters(),
         standing,
         totals,
-        plants: plant_lines(option, register),
-        plant_count: register.count(),
+        plants: plant_lines(option, opened.draft.register()),
         contracts: contract_lines(&opened.ledger, totals.draw.netted),
-        contract_count: opened.ledger.contracts().len(),
     }
 }
 

@@ -1,6 +1,5 @@
 -- A site that is fit has power, since it has a supported plant. Assumes nothing.
-use Rattle.std.proofs.Common.{◌≡◌, ℕ, ◌<◌, All, Bool, true, false, cond, List, [], ◌∷◌, is_some, is_ok, Some, None, Ok, Err, Option, sym, refl, arith}
-use Rattle.std.specs.List.{list_any}
+use Rattle.std.proofs.Common.{◌≡◌, ℕ, ◌<◌, All, Bool, true, false, cond, List, [], ◌∷◌, is_some, is_ok, None, Ok, Err, Option, sym, refl, arith}
 use Rattle.std.proofs.lemmas.List.Elements.{All-get_or}
 use Rattle.std.proofs.lemmas.List.Sums.{sum_by-cons}
 use Rattle.std.proofs.lemmas.Bool.{true≢false}
@@ -8,7 +7,7 @@ use Rattle.fault.specs.Questions.{Answer}
 use Rattle.site.specs.declared.draft.Draft.{Draft}
 use Rattle.site.specs.declared.plant.Plant.{Plant}
 use Rattle.site.specs.Drafts.{fitness}
-use Rattle.site.specs.Plants.{site_power_of, supported, some_supported}
+use Rattle.site.specs.Plants.{site_power_of, some_supported}
 use Rattle.balance.proofs.Asked.{got_yes}
 
 -- where some plant is supported, there is a plant, and each plant has power

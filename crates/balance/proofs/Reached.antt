@@ -17,7 +17,6 @@ use Rattle.account.specs.declared.year.Opened.{Opened}
 use Rattle.account.specs.Calls.{mark, marks, Opens, Begins, Enters}
 use Rattle.account.specs.Ledgers.{Fresh}
 use Rattle.account.specs.SupplyContracts.{no_contract, draw_of}
-use Rattle.account.specs.declared.contract.Contract.{Contract}
 use Rattle.balance.specs.Runs.{Call, Account, drafted, opened, closed, Leads, begins_blank, sets, adds, checks, opens, begins, enters, closes, states_interim, states_finally, adding_plant, beginning_contract, entering_quarter}
 use Rattle.balance.specs.Brought.{Reading, plants, contracts, readings, fed_in, drawn, marked_for}
 use Rattle.balance.proofs.Asked.{got_yes}

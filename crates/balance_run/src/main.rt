@@ -1,7 +1,7 @@
 // A run of an account's calls with refused ones among them: each call's answer, and each statement beside what the calls before it brought.
 #![tactic(auto)]
 
-use account::year::{Closed, Opened};
+use account::year::Opened;
 use balance::{final_statement, interim_statement};
 use brought::Brought;
 use calendar::published_table::PublishedTable;
@@ -27,9 +27,14 @@ fn answer(rt: &HostRuntime, call: &str, offered: u32, res: Result<(), Fault>) ->
 // Each line: what the accepted calls brought, and what the statement makes of it.
 fn feed_in_beside(rt: &HostRuntime, statement: &Statement, brought: &Brought) -> io::Result<()> {
     let mut portions = 0u32;
-    for (place, line) in statement.plant_lines().iter().enumerate() {
+    for (place, (line, plant)) in statement
+        .plant_lines()
+        .iter()
+        .zip(&brought.plants)
+        .enumerate()
+    {
         portions = portions.saturating_add(line.portion);
-        let fed = brought.marked.get(place).copied().unwrap_or(0);
+        let fed = plant.feed_in;
         let marked = line.marked;
         println!(rt; "  fed in while plant {place} was marked {fed}: marked {marked}")?;
     }
@@ -41,8 +46,7 @@ fn feed_in_beside(rt: &HostRuntime, statement: &Statement, brought: &Brought) ->
 
 fn draw_beside(rt: &HostRuntime, statement: &Statement, brought: &Brought) -> io::Result<()> {
     let mut all_netted = 0u32;
-    for (place, line) in statement.contract_lines().iter().enumerate() {
-        let drawn = brought.under.get(place).copied().unwrap_or(0);
+    for (line, drawn) in statement.contract_lines().iter().zip(&brought.contracts) {
         let number = line.number;
         let netted = line.draw.netted;
         let levied = line.draw.levied;
@@ -69,65 +73,104 @@ fn given(
     }
 }
 
-// An account of one option, and what its accepted calls brought.
+// A call of an opened year.
+#[derive(Clone, Copy)]
+enum Call {
+    Contract(u32),
+    Quarter(u32, Amounts),
+    Statement,
+}
+
+// An account of one option, what marks its quarters, and what its accepted calls brought.
 #[derive(Drop)]
-struct Run<O> {
+struct Run<'a, O> {
+    rt: &'a HostRuntime,
+    table: PublishedTable<'a>,
     year: Opened<O>,
     brought: Brought,
 }
 
-impl<O: SettlementOption + Drop> Run<O> {
-    fn begin(&mut self, rt: &HostRuntime, number: u32) -> io::Result<()> {
-        let result = self.year.begin_contract(number);
-        if result.is_ok() {
-            self.brought.begin_contract();
-        }
-        answer(rt, "contract", number, result)
+impl<'a, O: SettlementOption + Drop> Run<'a, O> {
+    // A year opened from a draft with these plants, as far as they are accepted.
+    fn open(
+        rt: &'a HostRuntime,
+        table: PublishedTable<'a>,
+        plants: &[PlantEntry],
+    ) -> io::Result<Run<'a, O>> {
+        let mut brought = Brought::nothing(rt.alloc());
+        let draft = drafted(rt, plants, &mut brought)?;
+        let fitness = draft.check_fitness::<O>();
+        answer(rt, "fitness under option", O::number() as u32, fitness)?;
+        println!(rt; "open")?;
+        Ok(Run {
+            rt,
+            table,
+            year: Opened::open(draft),
+            brought,
+        })
     }
 
-    fn take(
-        &mut self,
-        table: &PublishedTable<'_>,
-        quarter: u32,
-        amounts: Amounts,
-    ) -> Result<(), Fault> {
-        self.year.enter_quarter(table, quarter, amounts)?;
-        self.brought.enter_quarter(table, quarter, amounts);
+    fn begin(&mut self, number: u32) -> io::Result<()> {
+        let result = self.year.begin_contract(number);
+        if result.is_ok() {
+            self.brought.begin_contract()?;
+        }
+        answer(self.rt, "contract", number, result)
+    }
+
+    fn take(&mut self, quarter: u32, amounts: Amounts) -> Result<(), Fault> {
+        self.year.enter_quarter(&self.table, quarter, amounts)?;
+        self.brought.enter_quarter(&self.table, quarter, amounts);
         Ok(())
     }
 
-    fn enter(
-        &mut self,
-        rt: &HostRuntime,
-        table: &PublishedTable<'_>,
-        quarter: u32,
-        amounts: Amounts,
-    ) -> io::Result<()> {
-        let result = self.take(table, quarter, amounts);
-        answer(rt, "quarter", quarter, result)
+    fn enter(&mut self, quarter: u32, amounts: Amounts) -> io::Result<()> {
+        let result = self.take(quarter, amounts);
+        answer(self.rt, "quarter", quarter, result)
     }
 
-    fn statement(&self, rt: &HostRuntime) -> io::Result<()> {
+    // What is left of the year: readings that differ from quarter to quarter.
+    fn enter_rest(&mut self) -> io::Result<()> {
+        let mut accepted = 0u32;
+        for quarter in 4..35_040u32 {
+            let reading = Amounts {
+                draw: quarter % 97,
+                feed_in: quarter * 7 % 1_009,
+                store_in: quarter % 31,
+                store_out: quarter % 29,
+            };
+            if self.take(quarter, reading).is_ok() {
+                accepted = accepted.saturating_add(1);
+            }
+        }
+        println!(self.rt; "quarters 4 to 35039: {accepted} accepted")
+    }
+
+    fn statement(&self) -> io::Result<()> {
         let mut statement = Statement::blank();
         let result = interim_statement::<O, PublishedTable<'_>>(&self.year, &mut statement);
-        given(rt, result, &statement, &self.brought)
+        given(self.rt, result, &statement, &self.brought)
     }
 
-    fn close(self, rt: &HostRuntime) -> io::Result<()> {
+    fn call_all(&mut self, calls: &[Call]) -> io::Result<()> {
+        for call in calls {
+            match *call {
+                Call::Contract(number) => self.begin(number)?,
+                Call::Quarter(quarter, amounts) => self.enter(quarter, amounts)?,
+                Call::Statement => self.statement()?,
+            }
+        }
+        Ok(())
+    }
+
+    fn close(self) -> io::Result<()> {
+        let Run {
+            rt, year, brought, ..
+        } = self;
         println!(rt; "close")?;
-        let closed: Closed<O> = self.year.close();
         let mut statement = Statement::blank();
-        let result = final_statement::<O, PublishedTable<'_>>(&closed, &mut statement);
-        given(rt, result, &statement, &self.brought)
-    }
-}
-
-fn amounts(draw: u32, feed_in: u32, store_in: u32, store_out: u32) -> Amounts {
-    Amounts {
-        draw,
-        feed_in,
-        store_in,
-        store_out,
+        let result = final_statement::<O, PublishedTable<'_>>(&year.close(), &mut statement);
+        given(rt, result, &statement, &brought)
     }
 }
 
@@ -140,6 +183,18 @@ fn plant(power: u32, kind: u8, marketing: u8, regime: u8) -> PlantEntry {
     }
 }
 
+fn quarter(quarter: u32, draw: u32, feed_in: u32, store_in: u32, store_out: u32) -> Call {
+    Call::Quarter(
+        quarter,
+        Amounts {
+            draw,
+            feed_in,
+            store_in,
+            store_out,
+        },
+    )
+}
+
 // A draft with these plants, as far as they are accepted.
 fn drafted(rt: &HostRuntime, plants: &[PlantEntry], brought: &mut Brought) -> io::Result<Draft> {
     let mut draft = Draft::new();
@@ -149,105 +204,40 @@ fn drafted(rt: &HostRuntime, plants: &[PlantEntry], brought: &mut Brought) -> io
     for entry in plants {
         let result = draft.add_plant(*entry);
         if result.is_ok() {
-            brought.add_plant(entry.regime);
+            brought.add_plant(entry.regime)?;
         }
         answer(rt, "plant", entry.power, result)?;
     }
     Ok(draft)
 }
 
-fn opened<O: SettlementOption + Drop>(
-    rt: &HostRuntime,
-    plants: &[PlantEntry],
-) -> io::Result<Run<O>> {
-    let mut brought = Brought::nothing();
-    let draft = drafted(rt, plants, &mut brought)?;
-    let fitness = draft.check_fitness::<O>();
-    answer(rt, "fitness under option", O::number() as u32, fitness)?;
-    println!(rt; "open")?;
-    Ok(Run {
-        year: Opened::open(draft),
-        brought,
-    })
+fn first_calls() -> [Call; 18] {
+    [
+        quarter(0, 100, 700, 60, 0),
+        Call::Contract(0),
+        Call::Contract(7),
+        Call::Contract(7),
+        Call::Statement,
+        quarter(1, 100, 700, 60, 0),
+        quarter(0, 100, 700, 60, 0),
+        quarter(0, 100, 700, 60, 0),
+        quarter(1, 0, 50_001, 0, 0),
+        quarter(1, 0, 900, 40, 0),
+        Call::Statement,
+        Call::Contract(9),
+        quarter(2, 300, 0, 0, 0),
+        quarter(3, 0, 1_200, 0, 70),
+        Call::Contract(11),
+        Call::Contract(12),
+        Call::Contract(13),
+        Call::Statement,
+    ]
 }
-
-// What is left of the year: readings that differ from quarter to quarter.
-fn enter_rest<O: SettlementOption + Drop>(
-    rt: &HostRuntime,
-    table: &PublishedTable<'_>,
-    run: &mut Run<O>,
-) -> io::Result<()> {
-    let mut accepted = 0u32;
-    for quarter in 4..35_040u32 {
-        let reading = amounts(
-            quarter % 97,
-            quarter * 7 % 1_009,
-            quarter % 31,
-            quarter % 29,
-        );
-        if run.take(table, quarter, reading).is_ok() {
-            accepted = accepted.saturating_add(1);
-        }
-    }
-    println!(rt; "quarters 4 to 35039: {accepted} accepted")
-}
-
-// A call of an opened year.
-#[derive(Clone, Copy)]
-enum Call {
-    Contract(u32),
-    // The quarter, and draw, feed-in, store in and store out.
-    Quarter(u32, u32, u32, u32, u32),
-    Statement,
-}
-
-fn call_all<O: SettlementOption + Drop>(
-    rt: &HostRuntime,
-    table: &PublishedTable<'_>,
-    run: &mut Run<O>,
-    calls: &[Call],
-) -> io::Result<()> {
-    for call in calls {
-        let call = *call;
-        match call {
-            Call::Contract(number) => run.begin(rt, number)?,
-            Call::Quarter(quarter, draw, feed_in, store_in, store_out) => run.enter(
-                rt,
-                table,
-                quarter,
-                amounts(draw, feed_in, store_in, store_out),
-            )?,
-            Call::Statement => run.statement(rt)?,
-        }
-    }
-    Ok(())
-}
-
-const FIRST_CALLS: [Call; 18] = [
-    Call::Quarter(0, 100, 700, 60, 0),
-    Call::Contract(0),
-    Call::Contract(7),
-    Call::Contract(7),
-    Call::Statement,
-    Call::Quarter(1, 100, 700, 60, 0),
-    Call::Quarter(0, 100, 700, 60, 0),
-    Call::Quarter(0, 100, 700, 60, 0),
-    Call::Quarter(1, 0, 50_001, 0, 0),
-    Call::Quarter(1, 0, 900, 40, 0),
-    Call::Statement,
-    Call::Contract(9),
-    Call::Quarter(2, 300, 0, 0, 0),
-    Call::Quarter(3, 0, 1_200, 0, 70),
-    Call::Contract(11),
-    Call::Contract(12),
-    Call::Contract(13),
-    Call::Statement,
-];
 
 // A whole year, with refused calls all the way.
 fn whole_year<O: SettlementOption + Drop>(
     rt: &HostRuntime,
-    table: &PublishedTable<'_>,
+    table: PublishedTable<'_>,
 ) -> io::Result<()> {
     let plants = [
         plant(0, 0, 0, 0),
@@ -259,38 +249,31 @@ fn whole_year<O: SettlementOption + Drop>(
         plant(195_000, 0, 0, 0),
         plant(12_000, 0, 0, 7),
     ];
-    let mut run: Run<O> = opened(rt, &plants)?;
+    let mut run: Run<O> = Run::open(rt, table, &plants)?;
     let mut next_year = Draft::new();
     let late = next_year.add_plant(plant(5_000, 0, 0, 2));
     answer(rt, "late plant, in the next draft", 5_000, late)?;
-    call_all(rt, table, &mut run, &FIRST_CALLS)?;
-    enter_rest(rt, table, &mut run)?;
-    let last_calls = [Call::Quarter(35_040, 1, 1, 0, 0), Call::Statement];
-    call_all(rt, table, &mut run, &last_calls)?;
-    run.close(rt)
+    run.call_all(&first_calls())?;
+    run.enter_rest()?;
+    run.call_all(&[quarter(35_040, 1, 1, 0, 0), Call::Statement])?;
+    run.close()
 }
 
 // A year from an unfit draft, and one that is closed too early.
-fn no_statement(rt: &HostRuntime, table: &PublishedTable<'_>) -> io::Result<()> {
-    let mut unfit: Run<FlatOption> = opened(rt, &[plant(1_000, 0, 1, 0)])?;
-    let calls = [
-        Call::Contract(7),
-        Call::Quarter(0, 1, 1, 0, 0),
-        Call::Statement,
-    ];
-    call_all(rt, table, &mut unfit, &calls)?;
-    unfit.close(rt)?;
-    let mut early: Run<FlatOption> = opened(rt, &[plant(1_000, 0, 0, 0)])?;
-    let calls = [Call::Contract(7), Call::Quarter(0, 20_000, 30_000, 0, 0)];
-    call_all(rt, table, &mut early, &calls)?;
-    early.close(rt)
+fn no_statement(rt: &HostRuntime, table: PublishedTable<'_>) -> io::Result<()> {
+    let mut unfit: Run<FlatOption> = Run::open(rt, table, &[plant(1_000, 0, 1, 0)])?;
+    unfit.call_all(&[Call::Contract(7), quarter(0, 1, 1, 0, 0), Call::Statement])?;
+    unfit.close()?;
+    let mut early: Run<FlatOption> = Run::open(rt, table, &[plant(1_000, 0, 0, 0)])?;
+    early.call_all(&[Call::Contract(7), quarter(0, 20_000, 30_000, 0, 0)])?;
+    early.close()
 }
 
 fn main(rt: HostRuntime) -> anyhow::Result<()> {
     let bytes = fs::read(&rt, "calendar.bin")?;
     let table = PublishedTable::new(&bytes);
-    whole_year::<FlatOption>(&rt, &table)?;
-    whole_year::<DelimitationOption>(&rt, &table)?;
-    no_statement(&rt, &table)?;
+    whole_year::<FlatOption>(&rt, table)?;
+    whole_year::<DelimitationOption>(&rt, table)?;
+    no_statement(&rt, table)?;
     Ok(())
 }

@@ -1,12 +1,13 @@
 // The lines of a statement, figure by figure, in Wh.
-#[derive(Clone, Copy, PartialEq, Debug)]
+#[derive(Clone, Copy, PartialEq, Debug, Default)]
 pub enum Standing {
+    #[default]
     Interim,
     Final,
 }
 
 // Grid draw: the part that is netted, and the part that stays levied.
-#[derive(Clone, Copy, PartialEq, Debug)]
+#[derive(Clone, Copy, PartialEq, Debug, Default)]
 pub struct DrawFigures {
     pub draw: u32,
     pub netted: u32,
@@ -14,7 +15,7 @@ pub struct DrawFigures {
 }
 
 // Feed-in: the base that is divided over the plants, the nettable and the unassigned part. What netting left of the nettable is unused.
-#[derive(Clone, Copy, PartialEq, Debug)]
+#[derive(Clone, Copy, PartialEq, Debug, Default)]
 pub struct FeedInFigures {
     pub feed_in: u32,
     pub base: u32,
@@ -23,14 +24,14 @@ pub struct FeedInFigures {
     pub unused: u32,
 }
 
-#[derive(Clone, Copy, PartialEq, Debug)]
+#[derive(Clone, Copy, PartialEq, Debug, Default)]
 pub struct Totals {
     pub draw: DrawFigures,
     pub feed_in: FeedInFigures,
 }
 
 // A plant's portion of the base: the part that earns the market premium is valued.
-#[derive(Clone, Copy, PartialEq, Debug)]
+#[derive(Clone, Copy, PartialEq, Debug, Default)]
 pub struct PlantLine {
     pub place: usize,
     pub portion: u32,
@@ -39,27 +40,8 @@ pub struct PlantLine {
     pub unvalued: u32,
 }
 
-#[derive(Clone, Copy, PartialEq, Debug)]
+#[derive(Clone, Copy, PartialEq, Debug, Default)]
 pub struct ContractLine {
     pub number: u32,
     pub draw: DrawFigures,
 }
-
-pub const NO_DRAW: DrawFigures = DrawFigures {
-    draw: 0,
-    netted: 0,
-    levied: 0,
-};
-
-pub const NO_PLANT_LINE: PlantLine = PlantLine {
-    place: 0,
-    portion: 0,
-    marked: 0,
-    valued: 0,
-    unvalued: 0,
-};
-
-pub const NO_CONTRACT_LINE: ContractLine = ContractLine {
-    number: 0,
-    draw: NO_DRAW,
-};

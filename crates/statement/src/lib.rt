@@ -4,10 +4,8 @@
 ghost use Rattle.std.specs.Prelude.{◌≡◌};
 ghost use Rattle.statement.specs.Lines.{plant_lines, contract_lines, blank};
 
-use figures::lines::{
-    ContractLine, FeedInFigures, NO_CONTRACT_LINE, NO_DRAW, NO_PLANT_LINE, PlantLine, Standing,
-    Totals,
-};
+use arrayvec::ArrayVec;
+use figures::lines::{ContractLine, PlantLine, Standing, Totals};
 use options::settlement_option::PLACES;
 
 pub mod text;
@@ -15,18 +13,16 @@ pub mod text;
 // The most contracts of a year.
 pub const MOST_CONTRACTS: usize = 4;
 
-// The first `plant_count` plant lines and the first `contract_count` contract lines count.
-#[derive(Clone, Copy, PartialEq, Debug)]
+// A line for each plant, in the order of adding, and for each contract, in the order of beginning.
+#[derive(Clone, PartialEq, Debug, Drop)]
 pub struct Statement {
     pub year: u16,
     pub option: u8,
     pub quarters: u32,
     pub standing: Standing,
     pub totals: Totals,
-    pub plants: [PlantLine; PLACES],
-    pub plant_count: usize,
-    pub contracts: [ContractLine; MOST_CONTRACTS],
-    pub contract_count: usize,
+    pub plants: ArrayVec<PlantLine, PLACES>,
+    pub contracts: ArrayVec<ContractLine, MOST_CONTRACTS>,
 }
 
 impl Statement {
@@ -38,21 +34,10 @@ impl Statement {
             year: 0,
             option: 0,
             quarters: 0,
-            standing: Standing::Interim,
-            totals: Totals {
-                draw: NO_DRAW,
-                feed_in: FeedInFigures {
-                    feed_in: 0,
-                    base: 0,
-                    nettable: 0,
-                    unassigned: 0,
-                    unused: 0,
-                },
-            },
-            plants: [NO_PLANT_LINE; PLACES],
-            plant_count: 0,
-            contracts: [NO_CONTRACT_LINE; MOST_CONTRACTS],
-            contract_count: 0,
+            standing: Standing::default(),
+            totals: Totals::default(),
+            plants: ArrayVec::new(),
+            contracts: ArrayVec::new(),
         }
     }
 
@@ -60,17 +45,13 @@ impl Statement {
     pub fn plant_lines(&self) -> &[PlantLine]
         ensures { result.now ≡ plant_lines self.now }
     {
-        let count = self.plant_count.min(PLACES);
-        let all = &self.plants[..];
-        &all[0..count]
+        self.plants.as_slice()
     }
 
     // The lines of the contracts.
     pub fn contract_lines(&self) -> &[ContractLine]
         ensures { result.now ≡ contract_lines self.now }
     {
-        let count = self.contract_count.min(MOST_CONTRACTS);
-        let all = &self.contracts[..];
-        &all[0..count]
+        self.contracts.as_slice()
     }
 }

@@ -16,7 +16,7 @@ impl fmt::Display for Statement {
             standing,
             totals,
             ..
-        } = *self;
+        } = self;
         let draw = totals.draw;
         let feed_in = totals.feed_in;
         write!(

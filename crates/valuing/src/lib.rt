@@ -4,8 +4,9 @@
 ghost use Rattle.std.specs.Prelude.{◌≡◌, ◌<◌, ◌≤◌};
 ghost use Rattle.valuing.specs.Valued.{drawn, valued, line, plant_lines, totals};
 
+use arrayvec::ArrayVec;
 use division::divide;
-use figures::lines::{DrawFigures, FeedInFigures, NO_PLANT_LINE, PlantLine, Totals};
+use figures::lines::{DrawFigures, FeedInFigures, PlantLine, Totals};
 use options::settlement_option::{PLACES, SettlementOption};
 use site::plant::Plant;
 use site::register::Register;
@@ -58,14 +59,17 @@ fn plant_line<O: SettlementOption>(
     }
 }
 
-// The line of each plant, blank where there is none.
-pub fn plant_lines<O: SettlementOption>(option: &O, register: &Register) -> [PlantLine; PLACES]
-    ensures { result ≡ plant_lines O.SettlementOption option.now register.now }
+// The line of each plant, in the order of adding.
+pub fn plant_lines<O: SettlementOption>(
+    option: &O,
+    register: &Register,
+) -> ArrayVec<PlantLine, PLACES>
+    ensures { result.items ≡ plant_lines O.SettlementOption option.now register.now }
 {
     let portions = divide(option.base(), register.places());
-    let mut lines = [NO_PLANT_LINE; PLACES];
+    let mut lines = ArrayVec::new();
     for (place, plant) in register.plants().iter().enumerate() {
-        lines[place] = plant_line(option, plant, place, portions[place]);
+        lines.push(plant_line(option, plant, place, portions[place]));
     }
     lines
 }

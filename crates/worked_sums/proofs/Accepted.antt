@@ -1,5 +1,5 @@
 -- A quarter to which every question says yes is accepted. Assumes nothing.
-use Rattle.std.proofs.Common.{◌≡◌, ℕ, ◌<◌, true, eqb, ltb, Some, Ok, Err, refl, ◌∙◌, arith}
+use Rattle.std.proofs.Common.{◌≡◌, ℕ, ◌<◌, true, eqb, ltb, length, is_some, Some, Ok, Err, refl, ap, ◌∙◌, arith}
 use Rattle.std.proofs.lemmas.Bool.{cond-true, cond_both, and_from, eq-eqb, lt-ltb}
 use Rattle.fault.specs.declared.Fault.{Fault}
 use Rattle.fault.specs.Questions.{Answer}
@@ -7,17 +7,16 @@ use Rattle.calendar.specs.declared.value_calendar.ValueCalendar.{Ghosts as Calen
 use Rattle.options.specs.declared.amounts.Amounts.{Amounts}
 use Rattle.options.specs.declared.settlement_option.SettlementOption.{Ghosts as Meaning}
 use Rattle.options.specs.Quarters.{allowed, taking}
-use Rattle.site.specs.Years.{quarters_in}
 use Rattle.account.specs.declared.year.Opened.{Opened}
-use Rattle.account.specs.Calls.{answers, entering, year_of}
+use Rattle.account.specs.Calls.{answers, entering, quarters_of}
 
 module _ {O C : Type 0} (meaning : Meaning O) (calendar : Calendar C) (c : C) (a : Opened O) (quarter : ℕ) (amounts : Amounts)
-    (fit : a.fit ≡ true) (begun : 0 < a.ledger.begun) (next : quarter ≡ a.ledger.entered) (year : a.draft.year ≡ Some 2026) (inside : quarter < 35040)
+    (year : a.year ≡ Some 2026) (begun : 0 < length a.ledger.contracts.items) (next : quarter ≡ a.ledger.entered) (inside : quarter < 35040)
     (small : allowed amounts ≡ true) (spans : quarter < calendar.span c) (room : (meaning.sums a.option).quarters < 35136) where
   answered : answers calendar c a.draft.register quarter ≡ true
-  answered = cond_both (ltb 0 a.draft.register.count) (ltb quarter (calendar.span c)) true (λ b. b ≡ true) (λ _. lt-ltb quarter (calendar.span c) spans) (λ _. refl)
+  answered = cond_both (ltb 0 (length a.draft.register.plants.items)) (ltb quarter (calendar.span c)) true (λ b. b ≡ true) (λ _. lt-ltb quarter (calendar.span c) spans) (λ _. refl)
 
-  in_year : ltb quarter (quarters_in (year_of a.draft)) ≡ true
+  in_year : ltb quarter (quarters_of a.year) ≡ true
   in_year = rw year (lt-ltb quarter 35040 inside)
 
   taken : taking (meaning.sums a.option) amounts ≡ Ok tt
@@ -25,8 +24,8 @@ module _ {O C : Type 0} (meaning : Meaning O) (calendar : Calendar C) (c : C) (a
 
   pub accepted : entering meaning calendar c a quarter amounts ≡ Ok tt
   accepted =
-      cond-true a.fit _ _ fit
-      ∙ cond-true (ltb 0 a.ledger.begun) _ _ (lt-ltb 0 a.ledger.begun begun)
+      cond-true (is_some a.year) _ _ (ap is_some year)
+      ∙ cond-true (ltb 0 (length a.ledger.contracts.items)) _ _ (lt-ltb 0 _ begun)
       ∙ cond-true _ _ _ (and_from (eqb quarter a.ledger.entered) _ (eq-eqb quarter a.ledger.entered next) in_year)
       ∙ cond-true (allowed amounts) _ _ small
       ∙ cond-true (answers calendar c a.draft.register quarter) _ _ answered

@@ -32,7 +32,7 @@ module _ (o : FlatOption) where
 never_charged_at : (power : ℕ) (o : DelimitationOption) → Led delimitation power (uncharged ∷ []) o → (delimitation.base o ≡ 20) × (delimitation.nettable o ≡ 0) × (delimitation.unassigned o ≡ 10)
 never_charged_at power o l =
     let d = delimited l in
-    let fed : o.feed_in ≡ 30 = (added_up delimitation (λ _ _ _ _ t. t.sums) l).feed_in in
+    let fed : o.taken.feed_in ≡ 30 = (added_up delimitation (λ _ _ _ _ t. t.sums) l).feed_in in
     let store : o.store_feed_in ≡ 10 = d.discharged in
     let stored : o.store_in ≡ 0 = d.stored in
     let charged : o.grid_charging ≡ 0 = d.charged in

@@ -1,12 +1,11 @@
 -- The run that is never refused: its site, its calls, and what they come to. Assumes nothing.
-use Rattle.std.specs.Prelude.{List, [], ◌∷◌, replicate, Ok}
+use Rattle.std.specs.Prelude.{List, [], ◌∷◌, Ok}
 use Rattle.flat.specs.declared.FlatOption.{FlatOption}
 use Rattle.flat.specs.contracts.settles.FlatOptionSettlementOption.TheImpl.{ghosts as flat}
 use Rattle.site.specs.declared.plant.Kind.TheVariants.{Ordinary}
 use Rattle.site.specs.declared.plant.Marketing.TheVariants.{MarketPremium}
 use Rattle.site.specs.declared.plant.Plant.{Plant}
 use Rattle.site.specs.declared.plant.PlantEntry.{PlantEntry}
-use Rattle.site.specs.Plants.{no_plant}
 use Rattle.figures.specs.declared.lines.PlantLine.{PlantLine}
 use Rattle.figures.specs.declared.lines.Totals.{Totals}
 use Rattle.balance.specs.Runs.{Call, Account, Leads, setting_year, adding_plant, checking_fitness, opening, beginning_contract, entering_quarter}
@@ -14,7 +13,7 @@ use Rattle.worked_sums.specs.declared.calendar_of_run.AboveZeroUntil.{AboveZeroU
 use Rattle.worked_sums.specs.contracts.calendar_of_run.AboveZeroUntilValueCalendar.TheImpl.{ghosts as until}
 
 abbrev pub one_plant : List Plant
-one_plant = record { power = 1; kind = Ordinary; marketing = MarketPremium; regime = 0 } ∷ replicate 7 no_plant
+one_plant = record { power = 1; kind = Ordinary; marketing = MarketPremium; regime = 0 } ∷ []
 
 -- 1,400 Wh fed in by a plant of 1 W: 500 are base, 900 may be netted against a draw of 1,450
 abbrev pub run_totals : Totals

@@ -23,9 +23,9 @@ use Rattle.valuing.specs.Valued.{totals, valued}
 
 -- a flat year of 10,000 W with these sums
 pub record FlatYear (feed_in draw : ℕ) (o : FlatOption) : Type 0 where
-  pub power : o.site_power ≡ 10000
-  pub fed : o.feed_in ≡ feed_in
-  pub drawn_off : o.draw ≡ draw
+  pub power : o.taken.site_power ≡ 10000
+  pub fed : o.taken.feed_in ≡ feed_in
+  pub drawn_off : o.taken.draw ≡ draw
 
 -- a supported ordinary plant, and a plug-in plant beside it
 abbrev pub ordinary_and_plug_in : ℕ → ℕ → List Plant
@@ -54,7 +54,7 @@ pub record WorkedSums : Type 0 where
   pub unmarked : (o : FlatOption) → FlatYear 8000000 0 o → (flat.sums o).marked 0 ≡ 0 → (valued (flat.base o) (flat.upper o 0) (flat.lower o 0) ≡ 0) × (flat.nettable o ≡ 3000000)
   -- plug-in plants count in the cap, and not in the limit
   pub plug_ins_fit : fit_for flat.limit (Some 2026) (ordinary_and_plug_in 30000 2000) ≡ Ok tt
-  pub plug_ins_in_the_cap : (o : FlatOption) → o.site_power ≡ site_power_of (ordinary_and_plug_in 30000 2000) → cap o ≡ 16000000
+  pub plug_ins_in_the_cap : (o : FlatOption) → o.taken.site_power ≡ site_power_of (ordinary_and_plug_in 30000 2000) → cap o ≡ 16000000
   pub too_much_for_flat : fit_for flat.limit (Some 2026) (ordinary_and_plug_in 30001 0) ≡ Err (fault OrdinaryPowerExceeded 0)
   pub fit_when_delimited : fit_for delimitation.limit (Some 2026) (ordinary_and_plug_in 30001 0) ≡ Ok tt
   -- what rounding leaves over goes to a later row, and a row of weight 0 gets nothing

@@ -1,9 +1,8 @@
 // A calendar in which every value is above zero up to a quarter, and zero from there on.
 ghost use Rattle.std.specs.Prelude.{nat_lt};
 
-use calendar::value_calendar::{LAST_REGIME, ValueCalendar};
+use calendar::value_calendar::{ValueCalendar, admit};
 use fault::Fault;
-use fault::cause::Cause;
 
 #[derive(Clone, Copy)]
 pub struct AboveZeroUntil {
@@ -18,12 +17,7 @@ impl ValueCalendar for AboveZeroUntil {
     ghost above = { λ c _ quarter. nat_lt quarter c.quarter };
 
     fn above_zero(&self, regime: u8, quarter: u32) -> Result<bool, Fault> {
-        if quarter >= SPAN {
-            return Err(Cause::QuarterPastSpan.at(quarter as u64));
-        }
-        if regime > LAST_REGIME {
-            return Err(Cause::RegimeUnknown.at(quarter as u64));
-        }
+        admit(SPAN, regime, quarter)?;
         Ok(quarter < self.quarter)
     }
 }

@@ -17,7 +17,7 @@ use statement::Statement;
 
 // The year 2026 with one supported plant of 1 W.
 fn drafted() -> Result<Draft, Fault>
-    ensures { MatchResult result (λ d. (d.year ≡ Some 2026) × (d.register.count ≡ 1) × (d.register.plants ≡ one_plant) × LedBy draft_calls (runs.drafted d)) (λ _. ⊥) }
+    ensures { MatchResult result (λ d. (d.year ≡ Some 2026) × (d.register.plants.items ≡ one_plant) × LedBy draft_calls (runs.drafted d)) (λ _. ⊥) }
 {
     let mut draft = Draft::new();
     draft.set_year(2026)?;
@@ -33,7 +33,7 @@ fn drafted() -> Result<Draft, Fault>
 
 // Two quarters, the first with a value above zero, the second without.
 pub fn settled_run() -> Result<Statement, Fault>
-    ensures { MatchResult result (λ s. (s.totals ≡ run_totals) × (slice_index_or s.plants 0 no_plant_line ≡ run_plant) × Balances (λ _ quarter. nat_lt quarter 1) run_calls s) (λ _. ⊥) }
+    ensures { MatchResult result (λ s. (s.totals ≡ run_totals) × (slice_index_or s.plants.items 0 no_plant_line ≡ run_plant) × Balances (λ _ quarter. nat_lt quarter 1) run_calls s) (λ _. ⊥) }
 {
     let draft = drafted()?;
     let mut year: Opened<FlatOption> = Opened::open(draft);

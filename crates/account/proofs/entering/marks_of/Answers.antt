@@ -9,7 +9,7 @@ use Rattle.site.specs.declared.plant.Plant.{Plant}
 use Rattle.site.specs.Plants.{no_plant}
 use Rattle.account.specs.Calls.{answers, mark, marks}
 use Rattle.account.proofs.Asking.{yes_or_no, refusal}
-use Rattle.valuing.proofs.Filling.{filled_more, filled_all}
+use Rattle.account.proofs.Filling.{filled_more, filled_all}
 use Rattle.account.proofs.entering.marks_of.Goals as goal
 
 pub returns-in_err-marks : goal.returns-in_err-marks
