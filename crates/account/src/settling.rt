@@ -46,6 +46,7 @@ fn settle<O: SettlementOption>(opened: &Opened<O>, year: u16, standing: Standing
     }
 }
 
+// Two calls and not a generic one: they ask different questions, and share all of the statement's making.
 impl<O: SettlementOption> Opened<O> {
     // An interim statement.
     pub fn statement(&self, statement: &mut Statement) -> Result<(), Fault>

@@ -73,7 +73,7 @@ fn given(
     }
 }
 
-// A call of an opened year.
+// A call of an opened year. An enum and no closures, so that a list of calls can be read as a table.
 #[derive(Clone, Copy)]
 enum Call {
     Contract(u32),
@@ -165,7 +165,10 @@ impl<'a, O: SettlementOption + Drop> Run<'a, O> {
 
     fn close(self) -> io::Result<()> {
         let Run {
-            rt, year, brought, ..
+            rt,
+            year,
+            brought,
+            ..
         } = self;
         println!(rt; "close")?;
         let mut statement = Statement::blank();

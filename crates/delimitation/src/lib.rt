@@ -6,7 +6,8 @@ ghost use Rattle.std.specs.Prelude.{◌≡◌, ℕ, ◌+◌, ◌*◌, ◌≤◌,
 use options::settlement_option::PLACES;
 use options::taken::Taken;
 
-// In Wh. The marked sums are kept in two parts, what came straight from the plants and what came out of the store.
+// In Wh. The marked sums are kept in two parts, what came straight from the plants and what came out of the store:
+// two arrays and not one of pairs, since `add_marked` adds to an array of sums, for this option as for the flat one.
 #[derive(Drop)]
 pub struct DelimitationOption {
     taken: Taken,

@@ -51,6 +51,7 @@ pub enum Cause {
     OptionUnknown,
 }
 
+// Named methods and no `From`, here and below: a cause has two numbers, and a conversion would not say which.
 impl Layer {
     // The number that stands for the layer in print.
     pub fn code(self) -> u8

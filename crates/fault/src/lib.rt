@@ -4,6 +4,7 @@
 ghost use Rattle.std.specs.Prelude.{◌≡◌, Some};
 ghost use Rattle.fault.specs.Text.{fault_text};
 
+use std::error::Error;
 use std::fmt;
 
 pub mod cause;
@@ -17,6 +18,7 @@ pub struct Fault {
     pub place: u64,
 }
 
+// By hand, since the text is promised: no derive has a clause for it.
 impl fmt::Display for Fault {
     ghost output = { λ f. Some (fault_text f) };
 
@@ -27,3 +29,5 @@ impl fmt::Display for Fault {
         write!(f, "fault layer {layer} number {number} place {place}")
     }
 }
+
+impl Error for Fault {}

@@ -1,4 +1,4 @@
-// The lines of a statement in print.
+// The lines of a statement in print. By hand, since each text is promised: no derive has a clause for it.
 ghost use Rattle.std.specs.Prelude.{Some};
 ghost use Rattle.figures.specs.Text.{draw_text, feed_in_text, plant_text, contract_text, standing_text};
 

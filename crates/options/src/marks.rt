@@ -11,6 +11,7 @@ pub fn add_marked(sums: [u32; PLACES], marks: [bool; PLACES], amount: u32) -> [u
     ensures uncapped { ((p : ℕ) → slice_index sums p + amount ≤ 1756800000) → Marks sums marks amount result }
 {
     let mut next = sums;
+    // By place: of a loop over borrowed sums, zipped with their marks, no proof knows what it wrote.
     for (place, marked) in marks.iter().enumerate() {
         if *marked {
             next[place] = next[place].saturating_add(amount);

@@ -16,7 +16,7 @@ pub const LONGEST_YEAR: u32 = 35_136;
 
 // Everything above an option relies on these members and laws alone.
 pub trait SettlementOption: Sized {
-    // its number in files and print
+    // its number in files and print; a number and no enum, since this crate knows none of the options
     ghost number: { ℕ };
 
     // the most ordinary power, in W, that a site under it may have

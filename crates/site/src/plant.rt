@@ -2,7 +2,10 @@
 ghost use Rattle.std.specs.Prelude.{◌≡◌, ◌<◌, ◌≤◌, Some, None, MatchResult};
 ghost use Rattle.site.specs.Plants.{power_of, supported, kind_of, marketing_of, entered};
 
+use calendar::value_calendar::LAST_REGIME;
 use division::Weighted;
+use std::error::Error;
+use std::fmt;
 
 #[derive(Clone, Copy, PartialEq, Debug, Default)]
 pub enum Kind {
@@ -26,11 +29,11 @@ pub struct Plant {
     pub power: u32,
     pub kind: Kind,
     pub marketing: Marketing,
-    // The version of the law, from 0 to 7, by which its value falls to zero.
+    // The version of the law, from 0 to 7, by which its value falls to zero; a number, since calendars count their rows by it.
     pub regime: u8,
 }
 
-// A plant as it is offered, its codes not yet judged.
+// A plant as it is offered. Its codes stay numbers, since the register judges them only after questions of its own.
 #[derive(Clone, Copy, Debug)]
 pub struct PlantEntry {
     pub power: u32,
@@ -41,9 +44,15 @@ pub struct PlantEntry {
 
 // A code that stands for no kind, no marketing or no regime.
 #[derive(Clone, Copy, PartialEq, Debug)]
-pub struct UnknownCode;
+pub struct UnknownCode(pub u8);
 
-const LAST_REGIME: u8 = 7;
+impl fmt::Display for UnknownCode {
+    fn fmt<W: fmt::Write>(&self, f: &mut fmt::Formatter<W>) -> fmt::Result {
+        write!(f, "nothing has the code {}", self.0)
+    }
+}
+
+impl Error for UnknownCode {}
 
 // Base is divided over plants by power.
 impl Weighted for Plant {
@@ -78,7 +87,7 @@ impl TryFrom<u8> for Kind {
         match code {
             0 => Ok(Kind::Ordinary),
             1 => Ok(Kind::PlugIn),
-            _ => Err(UnknownCode),
+            _ => Err(UnknownCode(code)),
         }
     }
 }
@@ -92,7 +101,7 @@ impl TryFrom<u8> for Marketing {
         match code {
             0 => Ok(Marketing::MarketPremium),
             1 => Ok(Marketing::Other),
-            _ => Err(UnknownCode),
+            _ => Err(UnknownCode(code)),
         }
     }
 }
@@ -107,7 +116,7 @@ impl TryFrom<PlantEntry> for Plant {
         let kind = Kind::try_from(entry.kind)?;
         let marketing = Marketing::try_from(entry.marketing)?;
         if entry.regime > LAST_REGIME {
-            return Err(UnknownCode);
+            return Err(UnknownCode(entry.regime));
         }
         Ok(Plant {
             power: entry.power,

@@ -1,4 +1,4 @@
-// A statement in print, line by line.
+// A statement in print, line by line. By hand, since the text is promised: no derive has a clause for it.
 ghost use Rattle.std.specs.Prelude.{Some};
 ghost use Rattle.statement.specs.Text.{statement_text};
 

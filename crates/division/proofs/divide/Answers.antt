@@ -1,36 +1,20 @@
-use Rattle.std.proofs.Common.{◌≡◌, ◌+◌, length, get_or, sym, refl, ap, ◌∙◌, rules, arith}
+use Rattle.std.proofs.Common.{◌≡◌, ◌+◌, length, get_or, sym, ap, ◌∙◌, rules, arith}
 use Rattle.std.proofs.lemmas.List.{length-map}
 use Rattle.std.proofs.lemmas.List.FromFn.{length-map-range_with_len, get_or-map-range_with_len, map-range_with_len_more}
 use Rattle.division.specs.Shares.{weights, together, share}
 use Rattle.division.proofs.Sums.{weights_more}
-use Rattle.division.proofs.Laws.{together_none, together_more, divided}
+use Rattle.division.proofs.Laws.{divided}
 use Rattle.division.proofs.divide.Goals as goal
-
-pub overflow_add-weights_so_far : goal.overflow_add-weights_so_far
-overflow_add-weights_so_far g c =
-    let more = weights_more g.R.Weighted.weight c.as_slice-rows.result.now c.loop-row.row-index c.row-item.result _ _ (omega arith) c.loop-row.invariant.0 (c.weight.ensures ∙ ap g.R.Weighted.weight c.row-item.is) in
-    omega arith
 
 pub part-together-requires : goal.part-together-requires
 part-together-requires g c =
     let more = weights_more g.R.Weighted.weight c.as_slice-rows.result.now c.loop-row.row-index c.row-item.result _ _ (omega arith) c.loop-row.invariant.0 (c.weight.ensures ∙ ap g.R.Weighted.weight c.row-item.is) in
     (omega arith, omega arith)
 
-pub overflow_sub-together : goal.overflow_sub-together
-overflow_sub-together g c =
-    let ws = weights g.R.Weighted.weight c.as_slice-rows.result.now in
-    let more = weights_more g.R.Weighted.weight c.as_slice-rows.result.now c.loop-row.row-index c.row-item.result _ _ (omega arith) c.loop-row.invariant.0 (c.weight.ensures ∙ ap g.R.Weighted.weight c.row-item.is) in
-    let is = more.0 in
-    let reaches : c.part-together.result ≡ together c.args.amount ws (c.loop-row.row-index + 1) = cc in
-    omega (arith, reaches, together_more c.args.amount ws c.loop-row.row-index)
-
 pub push-requires : goal.push-requires
 push-requires g c =
     let long = length-map-range_with_len (share c.args.amount (weights g.R.Weighted.weight c.as_slice-rows.result.now)) 0 c.loop-row.row-index in
     search rules
-
-pub loop-row-init : goal.loop-row-init
-loop-row-init g c = (refl, sym (together_none c.args.amount (weights g.R.Weighted.weight c.as_slice-rows.result.now)), search rules)
 
 pub loop-row-preserved : goal.loop-row-preserved
 loop-row-preserved g c =
