@@ -1,5 +1,5 @@
-use Rattle.std.proofs.Common.{◌≡◌, ℕ, length, get_or, ap, ◌∙◌, arith, rules}
-use Rattle.std.proofs.lemmas.List.FromFn.{length-map-range_with_len, map-range_with_len_more}
+use Rattle.std.proofs.Common.{◌≡◌, ℕ, get_or, ap, ◌∙◌, arith, rules}
+use Rattle.std.proofs.lemmas.List.FromFn.{map-range_with_len_more}
 use Rattle.division.specs.Shares.{share, weights}
 use Rattle.account.specs.declared.contract.Contract.{Contract}
 use Rattle.figures.specs.declared.lines.ContractLine.{ContractLine}
@@ -7,11 +7,6 @@ use Rattle.account.specs.Statements.{contract_share, contract_row}
 use Rattle.valuing.specs.Valued.{drawn}
 use Rattle.account.specs.SupplyContracts.{no_contract}
 use Rattle.account.proofs.settling.contract_lines.Goals as goal
-
-pub push-requires : goal.push-requires
-push-requires c =
-    let l = c.args.ledger.now in
-    omega (arith, ap length c.loop-place.invariant, length-map-range_with_len (contract_row c.args.netted l) 0 c.loop-place.place, ap length (c.deref-contract-items.ensures.0 ∙ ap (λ v. v.items) c.contracts-contracts.ensures), l.few)
 
 pub loop-place-preserved : goal.loop-place-preserved
 loop-place-preserved c =
