@@ -4,7 +4,7 @@ ghost use Rattle.price_line.specs.RunLengths.{says_runs, field_of, run_lengths_o
 
 use crate::digits::{Digits, leading_digits};
 use crate::flaw::Flaw;
-use price_rule::price_rule::REGIMES;
+use calendar::value_calendar::REGIMES;
 
 const LONGEST: u32 = 65_535;
 

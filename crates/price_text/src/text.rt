@@ -7,7 +7,8 @@ use crate::problem::{LineProblem, Problem};
 use price_line::flaw::Flaw;
 use price_line::price::price;
 use price_line::run_lengths::run_lengths;
-use price_rule::price_rule::{COMMON_YEAR, LEAP_YEAR, REGIMES};
+use calendar::value_calendar::REGIMES;
+use price_rule::price_rule::{COMMON_YEAR, LEAP_YEAR};
 use std::alloc::Global;
 
 // Prices in hundredths of a euro per MWh.
