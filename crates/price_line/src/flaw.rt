@@ -4,7 +4,7 @@ ghost use Rattle.std.specs.Prelude.{Some};
 
 use std::fmt;
 
-#[derive(Clone, Copy)]
+#[derive(Clone, Copy, Debug, PartialEq, Eq)]
 pub enum Flaw {
     NoPrice,
     PriceTooLarge,
@@ -12,6 +12,7 @@ pub enum Flaw {
     RunLengthTooLarge,
 }
 
+// By hand, since a derived message promises no text.
 impl fmt::Display for Flaw {
     ghost output = { λ f. Some (flaw_text f) };
 
