@@ -2,6 +2,7 @@
 ghost use Rattle.price_line.specs.Messages.{flaw_text};
 ghost use Rattle.std.specs.Prelude.{Some};
 
+use std::error::Error;
 use std::fmt;
 
 #[derive(Clone, Copy, Debug, PartialEq, Eq)]
@@ -25,3 +26,5 @@ impl fmt::Display for Flaw {
         }
     }
 }
+
+impl Error for Flaw {}

@@ -17,6 +17,5 @@ pub fn published(text: &[u8], heap: Global) -> Result<[u8; TABLE_BYTES], Problem
         run_lengths,
         prices,
     } = read_text(text, heap)?;
-    let table = table_of(&PriceRule::new(&prices, run_lengths));
-    Ok(table)
+    Ok(table_of(&PriceRule::new(&prices, run_lengths)))
 }
