@@ -1,2 +1,2 @@
-mod Amounts
 mod Fields
+mod Numbers

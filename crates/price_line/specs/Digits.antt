@@ -1,5 +1,5 @@
 -- Numbers spelled by decimal digits. Assumes nothing.
-use Rattle.std.specs.Prelude.{◌≡◌, ℕ, ◌+◌, ◌-◌, ◌*◌, ◌≤◌, min, Bool, ◌&&◌, List, length, take, fold, nat_le}
+use Rattle.std.specs.Prelude.{◌≡◌, ℕ, ◌+◌, ◌-◌, ◌*◌, ◌^◌, ◌<◌, min, Bool, ◌&&◌, List, take, drop, fold, nat_le}
 use Rattle.std.specs.List.{prefix_len}
 
 -- the characters 0 to 9
@@ -21,12 +21,8 @@ digits_in text = prefix_len is_digit text
 abbrev pub number_in : List ℕ → ℕ
 number_in text = number (take (digits_in text) text)
 
--- no number that is allowed is larger
-abbrev pub cap : ℕ
-cap = 100000000
-
--- the digits at the front of a text, as they are read: how many, and their number up to the cap
-pub record Read (text : List ℕ) (count read : ℕ) : Type 0 where
-  pub counted : count ≡ digits_in text
-  pub inside : count ≤ length text
-  pub spelled : read ≡ min (number_in text) cap
+-- the number at the front of a text, as it is read up to what 32 bits can say, and the text after its digits
+pub record Read (text : List ℕ) (read : ℕ) (rest : List ℕ) : Type 0 where
+  pub some : 0 < digits_in text
+  pub spelled : read ≡ min (number_in text) (2 ^ 32 - 1)
+  pub after : rest ≡ drop (digits_in text) text

@@ -1,35 +1,33 @@
-// The decimal digits at the front of a text.
-ghost use Rattle.std.specs.Prelude.{◌≡◌};
-ghost use Rattle.price_line.specs.Digits.{Read, is_digit};
+// Numbers spelled by decimal digits at the front of a text.
+ghost use Rattle.std.specs.Prelude.{◌≡◌, ◌-◌, ◌^◌, ◌≤◌, length, min};
+ghost use Rattle.std.specs.Option.{MatchOption};
+ghost use Rattle.price_line.specs.Digits.{Read, digits_in, number};
 
-// No price and no run length that is allowed has a number above this.
-const CAP: u32 = 100_000_000;
-
-// How many digits there are, and the number that they spell, or the cap if it is larger.
-#[derive(Clone, Copy)]
-pub struct Digits {
-    pub count: usize,
-    pub number: u32,
+fn count_digits(text: &[u8]) -> usize
+    ensures counted { result ≡ digits_in text.now }
+    ensures inside { result ≤ length text.now }
+{
+    text.iter().take_while(|byte| byte.is_ascii_digit()).count()
 }
 
-pub fn is_digit(byte: u8) -> bool
-    ensures { result ≡ is_digit byte }
+// The number that digits spell, or the largest of its type if it is larger.
+fn number(digits: &[u8]) -> u32
+    ensures { result ≡ min (number digits.now) (2 ^ 32 - 1) }
 {
-    byte >= b'0' && byte <= b'9'
+    digits.iter().fold(0u32, |number, digit| {
+        number
+            .saturating_mul(10)
+            .saturating_add(u32::from(digit.saturating_sub(b'0')))
+    })
 }
 
-pub fn leading_digits(text: &[u8]) -> Digits
-    ensures { Read text.now result.count result.number }
+// The number at the front of a text, and what stands after its digits.
+pub fn leading_number(text: &[u8]) -> Option<(u32, &[u8])>
+    ensures { MatchOption result (digits_in text.now ≡ 0) (λ read. Read text.now read.0 read.1.now) }
 {
-    let mut number = 0;
-    for (count, byte) in text.iter().enumerate() {
-        if !is_digit(*byte) {
-            return Digits { count, number };
-        }
-        number = (number * 10 + (*byte - b'0') as u32).min(CAP);
+    let (digits, rest) = text.split_at(count_digits(text));
+    if digits.is_empty() {
+        return None;
     }
-    Digits {
-        count: text.len(),
-        number,
-    }
+    Some((number(digits), rest))
 }

@@ -2,9 +2,10 @@
 ghost use Rattle.price_line.specs.Messages.{flaw_text};
 ghost use Rattle.std.specs.Prelude.{Some};
 
+use std::error::Error;
 use std::fmt;
 
-#[derive(Clone, Copy)]
+#[derive(Clone, Copy, Debug, PartialEq, Eq)]
 pub enum Flaw {
     NoPrice,
     PriceTooLarge,
@@ -12,6 +13,7 @@ pub enum Flaw {
     RunLengthTooLarge,
 }
 
+// By hand, since a derived message promises no text.
 impl fmt::Display for Flaw {
     ghost output = { λ f. Some (flaw_text f) };
 
@@ -24,3 +26,5 @@ impl fmt::Display for Flaw {
         }
     }
 }
+
+impl Error for Flaw {}

@@ -1,12 +1,12 @@
 // A line with a price in euros per MWh: an optional minus sign, digits, and optionally a point with one or two digits.
-ghost use Rattle.std.specs.Prelude.{◌≡◌};
+ghost use Rattle.std.specs.Prelude.{◌≡◌, ◌^◌, ◌<◌, IfOk};
 ghost use Rattle.price_line.specs.Prices.{hundredths_of, amount_of, price_of};
 
-use crate::digits::{Digits, is_digit, leading_digits};
+use crate::digits::leading_number;
 use crate::flaw::Flaw;
 
 // In hundredths of a euro, with either sign.
-const LARGEST: u32 = 2_147_483_647;
+const LARGEST: u64 = 2_147_483_647;
 
 // What stands after the whole euros, in hundredths: nothing, or a point with one or two digits.
 fn hundredths(text: &[u8]) -> Option<u32>
@@ -14,26 +14,22 @@ fn hundredths(text: &[u8]) -> Option<u32>
 {
     match text {
         [] => Some(0),
-        [b'.', tenths] if is_digit(*tenths) => Some((*tenths - b'0') as u32 * 10),
-        [b'.', tenths, rest] if is_digit(*tenths) && is_digit(*rest) => {
-            Some((*tenths - b'0') as u32 * 10 + (*rest - b'0') as u32)
+        [b'.', tenths @ b'0'..=b'9'] => Some(u32::from(tenths - b'0') * 10),
+        [b'.', tenths @ b'0'..=b'9', rest @ b'0'..=b'9'] => {
+            Some(u32::from(tenths - b'0') * 10 + u32::from(rest - b'0'))
         }
         _ => None,
     }
 }
 
 fn amount(text: &[u8]) -> Result<u32, Flaw>
-    ensures { result ≡ amount_of text.now }
+    ensures value { result ≡ amount_of text.now }
+    ensures small { IfOk result (λ amount. amount < 2 ^ 31) }
 {
-    let Digits { count, number } = leading_digits(text);
-    if count == 0 {
-        return Err(Flaw::NoPrice);
-    }
-    let Some(hundredths) = hundredths(&text[count..]) else {
-        return Err(Flaw::NoPrice);
-    };
-    let amount = number as u64 * 100 + hundredths as u64;
-    if amount > LARGEST as u64 {
+    let (euros, rest) = leading_number(text).ok_or(Flaw::NoPrice)?;
+    let hundredths = hundredths(rest).ok_or(Flaw::NoPrice)?;
+    let amount = u64::from(euros) * 100 + u64::from(hundredths);
+    if amount > LARGEST {
         return Err(Flaw::PriceTooLarge);
     }
     Ok(amount as u32)

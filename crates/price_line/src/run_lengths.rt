@@ -1,67 +1,34 @@
 // The line with the run lengths: the word runs, and then for each regime in turn a space and a number.
-ghost use Rattle.std.specs.Prelude.{◌≡◌, ◌≤◌, T, length};
-ghost use Rattle.price_line.specs.RunLengths.{says_runs, field_of, run_lengths_of};
+ghost use Rattle.std.specs.Prelude.{◌≡◌, Ok, Err};
+ghost use Rattle.std.specs.Result.{MatchResult};
+ghost use Rattle.price_line.specs.RunLengths.{field, field_of, run_lengths_of};
 
-use crate::digits::{Digits, leading_digits};
+use crate::digits::leading_number;
 use crate::flaw::Flaw;
-use price_rule::price_rule::REGIMES;
+use calendar::value_calendar::REGIMES;
 
-const LONGEST: u32 = 65_535;
-
-// The bytes of the word.
-const WORD: usize = 4;
-
-// A space and a number: the run length, and the bytes of both.
-#[derive(Clone, Copy)]
-struct Field {
-    length: u16,
-    size: usize,
-}
-
-fn says_runs(line: &[u8]) -> bool
-    ensures is { result ≡ says_runs line.now }
-    ensures long { T result → 4 ≤ length line.now }
+// The run length after a space, and what stands after its number.
+fn leading_run_length(text: &[u8]) -> Result<(u16, &[u8]), Flaw>
+    ensures { MatchResult result (λ read. field_of text.now ≡ Ok (field read.0 read.1.now)) (λ flaw. field_of text.now ≡ Err flaw) }
 {
-    match line {
-        [b'r', b'u', b'n', b's', ..] => true,
-        _ => false,
-    }
-}
-
-fn leading_field(text: &[u8]) -> Result<Field, Flaw>
-    ensures { result ≡ field_of text.now }
-{
-    let [b' ', ..] = text else {
+    let [b' ', number @ ..] = text else {
         return Err(Flaw::NoRunLengths);
     };
-    let Digits { count, number } = leading_digits(&text[1..]);
-    if count == 0 {
-        return Err(Flaw::NoRunLengths);
-    }
-    if number > LONGEST {
-        return Err(Flaw::RunLengthTooLarge);
-    }
-    Ok(Field {
-        length: number as u16,
-        size: count + 1,
-    })
+    let (length, rest) = leading_number(number).ok_or(Flaw::NoRunLengths)?;
+    let length = u16::try_from(length).map_err(|_| Flaw::RunLengthTooLarge)?;
+    Ok((length, rest))
 }
 
 // The run lengths that a line spells.
 pub fn run_lengths(line: &[u8]) -> Result<[u16; REGIMES], Flaw>
     ensures { result ≡ run_lengths_of line.now }
 {
-    if !says_runs(line) {
-        return Err(Flaw::NoRunLengths);
-    }
+    let mut rest = line.strip_prefix(b"runs").ok_or(Flaw::NoRunLengths)?;
     let mut lengths = [0; REGIMES];
-    let mut at = WORD;
-    for regime in 0..REGIMES {
-        let Field { length, size } = leading_field(&line[at..])?;
-        lengths[regime] = length;
-        at += size;
+    for length in &mut lengths {
+        (*length, rest) = leading_run_length(rest)?;
     }
-    if at < line.len() {
+    if !rest.is_empty() {
         return Err(Flaw::NoRunLengths);
     }
     Ok(lengths)

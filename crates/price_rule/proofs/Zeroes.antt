@@ -6,7 +6,7 @@ use Rattle.std.proofs.lemmas.Int.{ints}
 use Rattle.std.proofs.lemmas.Bool.{cases_lt, both_ways, eq-eqb, eqb-true, false≢true}
 use Rattle.std.proofs.lemmas.Bool.Decides.{Decides-below_and, Decides-below_or, Decides-and, Decides-ltb, Decides-like, same_from_decides}
 use Rattle.price_rule.specs.Prices.{negative, negative_run, in_run_from_below, zero_valued, RunAround}
-use Rattle.price_rule.specs.Counts.{NegativeBefore, NegativeFrom}
+use Rattle.price_rule.proofs.Counts.{NegativeBefore, NegativeFrom}
 
 module _ (prices : List ℤ) where
   below_zero : (k : ℕ) → negative prices k ≡ true → get_or prices k (pos 0) <ℤ pos 0

@@ -2,12 +2,9 @@
 ghost use Rattle.std.specs.Prelude.{◌≡◌, not, Decides, slice_index_or};
 ghost use Rattle.price_rule.specs.Prices.{price_span, zero_valued, RunAround};
 
-use crate::runs::{negative_before, negative_from};
-use calendar::value_calendar::{LAST_REGIME, ValueCalendar};
+use crate::runs::{negative_at_end, negative_at_start};
+use calendar::value_calendar::{REGIMES, ValueCalendar, admit};
 use fault::Fault;
-use fault::cause::Cause;
-
-pub const REGIMES: usize = LAST_REGIME as usize + 1;
 
 // The quarter hours of 365 and of 366 days.
 pub const COMMON_YEAR: usize = 35_040;
@@ -37,10 +34,7 @@ impl<'a> PriceRule<'a> {
     fn run_length(&self, regime: u8) -> usize
         ensures { result ≡ slice_index_or self.now.run_lengths regime 0 }
     {
-        if regime > LAST_REGIME {
-            return 0;
-        }
-        self.run_lengths[regime as usize] as usize
+        self.run_lengths.get(regime as usize).copied().unwrap_or(0) as usize
     }
 
     // Whether an unbroken run of negative prices, at least as long as the regime's run length, contains the quarter.
@@ -53,11 +47,12 @@ impl<'a> PriceRule<'a> {
         if run == 0 || after > self.prices.len() {
             return false;
         }
-        let before = negative_before(self.prices, after, run);
+        let (until, later) = self.prices.split_at(after);
+        let before = negative_at_end(&until[after.saturating_sub(run)..]);
         if before == 0 {
             return false;
         }
-        before + negative_from(self.prices, after, run - before) == run
+        before + negative_at_start(&later[..later.len().min(run - before)]) == run
     }
 
     fn span(&self) -> u32
@@ -77,12 +72,7 @@ impl<'a> ValueCalendar for PriceRule<'a> {
     ghost above = { λ c regime quarter. not (zero_valued c.prices.now (slice_index_or c.run_lengths regime 0) quarter) };
 
     fn above_zero(&self, regime: u8, quarter: u32) -> Result<bool, Fault> {
-        if quarter >= self.span() {
-            return Err(Cause::QuarterPastSpan.at(quarter as u64));
-        }
-        if regime > LAST_REGIME {
-            return Err(Cause::RegimeUnknown.at(quarter as u64));
-        }
+        admit(self.span(), regime, quarter)?;
         Ok(!self.is_zero_valued(regime, quarter))
     }
 }

@@ -1,39 +1,17 @@
-// Negative prices that stand together on either side of a quarter.
-ghost use Rattle.std.specs.Prelude.{◌≡◌, ◌<◌, ◌≤◌, length};
-ghost use Rattle.price_rule.specs.Counts.{NegativeBefore, NegativeFrom};
-ghost use Rattle.price_rule.specs.Prices.{negative};
+// Negative prices that stand together at either end of some prices.
+ghost use Rattle.std.specs.Prelude.{◌≡◌, pos, int_lt};
+ghost use Rattle.std.specs.List.{prefix_len, suffix_len};
 
-fn is_negative(prices: &[i32], quarter: usize) -> bool
-    requires { quarter < length prices.now }
-    ensures { result ≡ negative prices.now quarter }
+// How many prices are negative after the last that is not.
+pub(crate) fn negative_at_end(prices: &[i32]) -> usize
+    ensures { result ≡ suffix_len (λ price. int_lt price (pos 0)) prices.now }
 {
-    prices[quarter] < 0
+    prices.iter().rev().take_while(|price| **price < 0).count()
 }
 
-// Counts back from the end until the limit is reached, a price is not negative or the prices begin.
-pub(crate) fn negative_before(prices: &[i32], end: usize, limit: usize) -> usize
-    requires { end ≤ length prices.now }
-    ensures { NegativeBefore prices.now end limit result }
+// How many prices are negative before the first that is not.
+pub(crate) fn negative_at_start(prices: &[i32]) -> usize
+    ensures { result ≡ prefix_len (λ price. int_lt price (pos 0)) prices.now }
 {
-    let most = limit.min(end);
-    for count in 0..most {
-        if !is_negative(prices, end - 1 - count) {
-            return count;
-        }
-    }
-    most
-}
-
-// Counts on from the start until the limit is reached, a price is not negative or the prices end.
-pub(crate) fn negative_from(prices: &[i32], start: usize, limit: usize) -> usize
-    requires { start ≤ length prices.now }
-    ensures { NegativeFrom prices.now start limit result }
-{
-    let most = limit.min(prices.len() - start);
-    for count in 0..most {
-        if !is_negative(prices, start + count) {
-            return count;
-        }
-    }
-    most
+    prices.iter().take_while(|price| **price < 0).count()
 }

@@ -1,5 +1,5 @@
 -- The lines of a text. Assumes nothing.
-use Rattle.std.specs.Prelude.{◌≡◌, ℕ, ◌-◌, ◌<◌, ◌≤◌, Bool, cond, not, List, [], ◌∷◌, length, take, drop, ◌==◌, slice_index, slice_range}
+use Rattle.std.specs.Prelude.{ℕ, ◌-◌, Bool, cond, not, List, [], ◌∷◌, length, take, map, ◌==◌, slice_index}
 
 -- line feed and carriage return
 abbrev pub lf : ℕ
@@ -26,10 +26,6 @@ unended c = not (c == lf)
 abbrev pub without_cr : List ℕ → List ℕ
 without_cr line = take (length line - cond (slice_index line (length line - 1) == cr) 1 0) line
 
--- the first of the lines from a place on lies before the end, and the others from the next place on
-pub record FirstLine (text : List ℕ) (start end next : ℕ) : Type 0 where
-  pub first : start ≤ end
-  pub inside : end ≤ length text
-  pub on : start < next
-  pub within : next ≤ length text
-  pub splits : (line : List ℕ) × (lines_of (drop start text) ≡ line ∷ lines_of (drop next text)) × (without_cr line ≡ slice_range text start end)
+-- the lines of a text as they are read, each without what ends it
+abbrev pub lines_read : List ℕ → List (List ℕ)
+lines_read text = map without_cr (lines_of text)

@@ -8,7 +8,7 @@ use Rattle.price_text.specs.declared.problem.LineProblem.{LineProblem}
 use Rattle.price_text.specs.declared.problem.Problem.{Problem}
 use Rattle.price_text.specs.declared.problem.Problem.TheVariants.{Line, NoYear, NoMemory}
 use Rattle.price_text.specs.declared.text.PriceText.{PriceText}
-use Rattle.price_text.specs.Lines.{lines_of, without_cr}
+use Rattle.price_text.specs.Lines.{lines_read}
 use Rattle.price_line.specs.Prices.{price_of}
 use Rattle.price_line.specs.RunLengths.{run_lengths_of}
 
@@ -24,12 +24,12 @@ price_then number (Ok price) (Err later) = Err later
 -- the prices of lines, the first of which has this number; or the first line that spells none
 abbrev pub prices_of : ℕ → List (List ℕ) → Result (List ℤ) LineProblem
 prices_of number [] = Ok []
-prices_of number (line ∷ lines) = price_then number (price_of (without_cr line)) (prices_of (number + 1) lines)
+prices_of number (line ∷ lines) = price_then number (price_of line) (prices_of (number + 1) lines)
 
 -- what reading the lines after the first comes to, unless memory is wanting
 abbrev pub PricesRead : List ℕ → Result (Vec ℤ Global) Problem → Type 0
-PricesRead text (Ok prices) = prices_of 2 (lines_of text) ≡ Ok (vec_items prices)
-PricesRead text (Err (Line p)) = prices_of 2 (lines_of text) ≡ Err p
+PricesRead text (Ok prices) = prices_of 2 (lines_read text) ≡ Ok (vec_items prices)
+PricesRead text (Err (Line p)) = prices_of 2 (lines_read text) ≡ Err p
 PricesRead text (Err (NoYear last)) = ⊥
 PricesRead text (Err NoMemory) = Unit {0}
 
@@ -45,11 +45,11 @@ lengths_then (Ok lengths) (Err later) = Err later
 
 abbrev pub told_by : List (List ℕ) → Result Told LineProblem
 told_by [] = Err (problem 1 NoRunLengths)
-told_by (line ∷ lines) = lengths_then (run_lengths_of (without_cr line)) (prices_of 2 lines)
+told_by (line ∷ lines) = lengths_then (run_lengths_of line) (prices_of 2 lines)
 
 -- what a text tells, or the first of its lines that is flawed
 abbrev pub told : List ℕ → Result Told LineProblem
-told text = told_by (lines_of text)
+told text = told_by (lines_read text)
 
 -- what reading a text comes to, unless memory is wanting
 abbrev pub TextRead : List ℕ → Result PriceText Problem → Type 0

@@ -4,7 +4,7 @@
 use anyhow::anyhow;
 use calendar::published_table::PublishedTable;
 use calendar::value_calendar::{LAST_REGIME, ValueCalendar};
-use price_rule::price_rule::PriceRule;
+use price_rule::price_rule::{COMMON_YEAR, PriceRule};
 use price_text::text::{PriceText, read_text};
 use std::fs;
 
@@ -23,7 +23,7 @@ fn compare<A: ValueCalendar, B: ValueCalendar>(a: &A, b: &B) -> Tally {
         above: 0,
     };
     for regime in 0..=LAST_REGIME {
-        for quarter in 0..35_040 {
+        for quarter in 0..COMMON_YEAR as u32 {
             tally.pairs = tally.pairs.saturating_add(1);
             match (a.above_zero(regime, quarter), b.above_zero(regime, quarter)) {
                 (Ok(true), Ok(true)) => tally.above = tally.above.saturating_add(1),

@@ -1,10 +1,7 @@
-use Rattle.std.proofs.Common.{◌≡◌, ◌-◌, ◌≤◌, length, take, drop}
-use Rattle.price_line.specs.RunLengths.{fields_of}
+use Rattle.std.proofs.Common.{◌≡◌, ◌-◌, take}
+use Rattle.price_line.specs.RunLengths.{fields_of, run_lengths_of}
 use Rattle.price_line.proofs.Fields.{before}
 use Rattle.price_line.proofs.run_lengths.run_lengths.Given as goal
 
-abbrev pub invariant-loop-regime : goal.invariant-loop-regime
-invariant-loop-regime l =
-    (l.at ≤ length l.line)
-    × (length l.lengths ≡ 8)
-    × (before (take l.regime l.lengths) (fields_of (8 - l.regime) (drop l.at l.line)) ≡ fields_of 8 (drop 4 l.line))
+abbrev pub invariant-loop-length : goal.invariant-loop-length
+invariant-loop-length l = before (take l.length-index l.length-items) (fields_of (8 - l.length-index) l.rest) ≡ run_lengths_of l.line

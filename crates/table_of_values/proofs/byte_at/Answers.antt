@@ -1,8 +1,8 @@
 use Rattle.std.proofs.Common.{◌≡◌, ◌+◌, ◌*◌, ◌/◌, ◌%◌, ◌^◌, eqb, sym, ap, ◌∙◌, arith, below_more}
 use Rattle.std.proofs.lemmas.Nat.{pow_below}
 use Rattle.table_of_values.proofs.Bits.{joined, added, unadded, kept, bounded}
-use Rattle.table_of_values.proofs.byte_of.Goals as goal
-use Rattle.table_of_values.proofs.byte_of.Goals.{then-is_marked, else-is_marked}
+use Rattle.table_of_values.proofs.byte_at.Goals as goal
+use Rattle.table_of_values.proofs.byte_at.Goals.{then-is_marked, else-is_marked}
 
 pub loop-bit-preserved : goal.loop-bit-preserved
 loop-bit-preserved g c =

@@ -1,6 +1,6 @@
 use Rattle.std.proofs.Common.{◌≡◌, ℕ, ◌+◌, ◌/◌, ◌%◌, ◌^◌, ◌<◌, eqb}
 use Rattle.table_of_values.specs.Writing.{marked}
-use Rattle.table_of_values.proofs.byte_of.Given as goal
+use Rattle.table_of_values.proofs.byte_at.Given as goal
 
 abbrev pub invariant-loop-bit : goal.invariant-loop-bit
 invariant-loop-bit g l =
