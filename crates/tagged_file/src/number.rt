@@ -13,9 +13,10 @@ pub fn byte(content: &[u8], at: usize) -> u8
 fn bytes<const N: usize>(content: &[u8], at: usize) -> [u8; N]
     ensures { (k : ℕ) → k < N → slice_index result k ≡ byte_at content.now (at + k) }
 {
+    let rest = &content[at.min(content.len())..];
     let mut bytes = [0; N];
     for (place, slot) in bytes.iter_mut().enumerate() {
-        *slot = byte(content, at.saturating_add(place));
+        *slot = byte(rest, place);
     }
     bytes
 }

@@ -20,7 +20,7 @@ pub fn settle(rt: HostRuntime) -> anyhow::Result<ExitCode> {
             return Ok(ExitCode::FAILURE);
         }
     };
-    let mut input = StandardInput { stdin: rt.stdin() };
+    let mut input = StandardInput(rt.stdin());
     match whole_file::settle(PublishedTable::new(&table), &mut input) {
         Ok(Ok(statement)) => {
             print!(rt; "{statement}")?;
