@@ -1,5 +1,5 @@
 -- A settlement stands in its file from call to call. Assumes nothing.
-use Rattle.std.proofs.Common.{◌≡◌, ℕ, ◌-◌, ◌≤◌, true, false, List, [], ◌∷◌, ◌++◌, length, take, drop, Some, None, Ok, Err, Result, sym, refl, ap, ◌∙◌, subst, arith, length-drop, take_all}
+use Rattle.std.proofs.Common.{◌≡◌, ℕ, ◌-◌, ◌≤◌, true, false, List, [], ◌++◌, length, take, drop, Some, None, Ok, Err, Result, sym, refl, ap, ◌∙◌, subst, arith, length-drop, take_all}
 use Rattle.fault.specs.declared.Fault.{Fault}
 use Rattle.calendar.specs.declared.published_table.PublishedTable.{PublishedTable}
 use Rattle.statement.specs.declared.Statement.{Statement}
@@ -7,7 +7,7 @@ use Rattle.window.specs.Held.{ready}
 use Rattle.window.specs.Lying.{LiesOn, LiesAtEnd}
 use Rattle.settlement.specs.declared.settlement.Settlement.{Settlement}
 use Rattle.settlement.specs.Spelled.{SettlesTo, FileSettlesTo}
-use Rattle.settlement.specs.Longest.{Bounded, BoundedHere, Grows}
+use Rattle.settlement.specs.Longest.{BoundedHere, Grows}
 use Rattle.settlement.specs.Progress.{Outcome, open_still}
 use Rattle.settlement.specs.Settling.{Known, by_length, by_records, Told, ComesHere, Onward, StepsOn, Whereabouts, StandsIn, Keeps}
 
@@ -64,26 +64,20 @@ decided known table file rest rest' s e here = record { by = here.by; stands = d
 
 -- what is bounded stays so where order, account and offset stay
 pub bounded_still : (s t : Settlement) → t.order ≡ s.order → t.account ≡ s.account → t.window.offset ≡ s.window.offset → BoundedHere s → BoundedHere t
-bounded_still s t order chosen offset bounded =
-    let a : Bounded t.order s.account s.window.offset = subst (λ x. Bounded x s.account s.window.offset) (sym order) bounded in
-    let b : Bounded t.order t.account s.window.offset = subst (λ x. Bounded t.order x s.window.offset) (sym chosen) a in
-    subst (Bounded t.order t.account) (sym offset) b
+bounded_still s t order account offset bounded = rw (order, account, offset) bounded
 
 told_still : (known : Known) (file : List ℕ) (s t : Settlement) → t.order ≡ s.order → t.account ≡ s.account → t.window.offset ≡ s.window.offset → Told known file s → Told known file t
-told_still by_length file s t order chosen offset fits = fits
-told_still by_records file s t order chosen offset bounded = bounded_still s t order chosen offset bounded
+told_still by_length file s t order account offset fits = fits
+told_still by_records file s t order account offset bounded = bounded_still s t order account offset bounded
 
 -- bytes that come in at the end of the window
-module _ (s t : Settlement) (came : List ℕ) (table : t.table ≡ s.table) (order : t.order ≡ s.order) (chosen : t.account ≡ s.account) (outcome : t.outcome ≡ s.outcome)
+module _ (s t : Settlement) (came : List ℕ) (table : t.table ≡ s.table) (order : t.order ≡ s.order) (account : t.account ≡ s.account) (outcome : t.outcome ≡ s.outcome)
     (offset : t.window.offset ≡ s.window.offset) (stood : LiesOn s.window came t.window) where
   came_at : (known : Known) (by : PublishedTable) (file rest : List ℕ) (x : Outcome) → Whereabouts known by file (came ++ rest) s x → Whereabouts known by file rest t x
   came_at known by file rest None at = (
     stood file rest at.0,
-    told_still known file s t order chosen offset at.1,
-    λ out comes.
-        let a : SettlesTo by file s.window.offset t.order t.account out = subst (λ p. SettlesTo by file p t.order t.account out) offset comes in
-        let b : SettlesTo by file s.window.offset s.order t.account out = subst (λ p. SettlesTo by file s.window.offset p t.account out) order a in
-        at.2 out (subst (λ p. SettlesTo by file s.window.offset s.order p out) chosen b),
+    told_still known file s t order account offset at.1,
+    λ out comes. at.2 out (rw (offset, order, account) at comes),
   )
   came_at known by file rest (Some out) at = at
 
@@ -93,22 +87,15 @@ module _ (s t : Settlement) (came : List ℕ) (table : t.table ≡ s.table) (ord
 -- a settlement of which nothing is still to come
 pub done_in : (s t : Settlement) → t.table ≡ s.table → t.order ≡ s.order → t.account ≡ s.account → t.outcome ≡ s.outcome → t.window.offset ≡ s.window.offset → LiesAtEnd s.window t.window
     → (known : Known) (by : PublishedTable) (file : List ℕ) → StandsIn known by file [] s → StandsIn known by file [] t
-done_in s t table order chosen outcome offset stood known by file here = record { by = table ∙ here.by; stands = subst (Whereabouts known by file [] t) (sym outcome) (at s.outcome here.stands) }
+done_in s t table order account outcome offset stood known by file here = record { by = table ∙ here.by; stands = subst (Whereabouts known by file [] t) (sym outcome) (at s.outcome here.stands) }
   where
     at : (x : Outcome) → Whereabouts known by file [] s x → Whereabouts known by file [] t x
     at None a = (
       stood file a.0,
-      told_still known file s t order chosen offset a.1,
-      λ out comes.
-          let b : SettlesTo by file s.window.offset t.order t.account out = subst (λ p. SettlesTo by file p t.order t.account out) offset comes in
-          let d : SettlesTo by file s.window.offset s.order t.account out = subst (λ p. SettlesTo by file s.window.offset p t.account out) order b in
-          a.2 out (subst (λ p. SettlesTo by file s.window.offset s.order p out) chosen d),
+      told_still known file s t order account offset a.1,
+      λ out comes. a.2 out (rw (offset, order, account) at comes),
     )
     at (Some out) a = a
-
-pub no_bytes : (xs : List ℕ) → length xs ≡ 0 → xs ≡ []
-no_bytes [] e = refl
-no_bytes (x ∷ xs) e = absurd (omega (arith, e))
 
 -- a piece is what was taken of it, and then its rest
 pub rest_of : (piece : List ℕ) (n : ℕ) → n ≤ length piece → take (length piece - n) (drop n piece) ≡ drop n piece

@@ -1,6 +1,6 @@
 -- One step in whatever file the window stands. Assumes nothing.
 use Rattle.std.proofs.Common.{◌≡◌, ℕ, ◌+◌, ◌<◌, ◌≤◌, min, true, ◌||◌, ltb, List, ◌++◌, length, drop, Some, None, Ok, Err, Option, sym, refl, ap, ◌∙◌, subst, ⊎_elim, append-nil, arith, length-append, length-drop}
-use Rattle.std.proofs.lemmas.Bool.{cases_Bool, ltb-true, ltb-false, lt-leb}
+use Rattle.std.proofs.lemmas.Bool.{MatchBool-at_true, MatchBool-at_false, cases_Bool, ltb-true, ltb-false, lt-leb}
 use Rattle.fault.specs.declared.Fault.{Fault}
 use Rattle.fault.specs.declared.cause.Cause.TheVariants.{BytesAfterEnd}
 use Rattle.fault.specs.Questions.{Answer, fault}
@@ -21,13 +21,11 @@ use Rattle.window.proofs.Standing.{pending_most}
 use Rattle.file_account.specs.declared.chosen.Chosen.{Chosen}
 use Rattle.settlement.specs.declared.settlement.Settlement.{Settlement}
 use Rattle.file_account.specs.Choosing.{ChosenPuts, ChosenRefuses}
-use Rattle.settlement.specs.Spelled.{SettlesTo}
 use Rattle.settlement.specs.Longest.{Bounded, BoundedHere, came_in}
 use Rattle.settlement.specs.Progress.{Outcome, open_still}
 use Rattle.settlement.specs.Settling.{placed, Known, by_length, by_records, Told, ComesHere, Onward, StepIn, StepsOn, Ends, EndsIn}
 use Rattle.settlement.proofs.Allowing.{bounded_most, taken_bounded}
 use Rattle.settlement.proofs.Outcomes.{refused, goes_on, too_long, unsettled, settled_at_end}
-use Rattle.settlement.proofs.Tested.{when_so, when_else}
 
 -- a record that is no end has another tag
 pub no_end_tag : (x : Record) → (x ≡ records.End → ⊥) → tag_in x ≡ tags.End → ⊥
@@ -83,24 +81,17 @@ module _ (s : Settlement) (tag : Tag) (content : List ℕ) (n : ℕ) (o' : Order
   pub goes_on_here : (t : Settlement) (ch : Option Chosen) → Follows s.order tag s.window.offset (Ok tt) o' → (tag ≡ tags.End → ⊥) → ChosenPuts table_calendar s.table s.account tag content (Ok tt) ch
       → right tag (length content) ≡ true → n ≡ 3 + length content → n ≤ length (pending s.window) → Passed s.window n t.window → LiesPast s.window t.window
       → t.table ≡ s.table → t.order ≡ o' → t.account ≡ ch → t.outcome ≡ s.outcome → StepsOn s (Ok tt) t
-  goes_on_here t ch follows no_end puts fits size held passed stood table order chosen outcome = record {
+  goes_on_here t ch follows no_end puts fits size held passed stood table order account outcome = record {
     table = table;
     finished = passed.finished;
     grows = λ ok bounded still.
         let bound : Bounded o' ch (s.window.offset + n) = taken_bounded table_calendar s.table content s.order o' s.account ch tag s.window.offset s.window.offset n follows fits size no_end puts bounded in
-        let a : Bounded o' ch t.window.offset = subst (Bounded o' ch) (sym (on (bounded_told s bounded))) bound in
-        let b : Bounded t.order ch t.window.offset = subst (λ x. Bounded x ch t.window.offset) (sym order) a in
-        (subst (λ x. Bounded t.order x t.window.offset) (sym chosen) b, omega (arith, on (bounded_told s bounded), ap length passed.held, length-drop n (pending s.window), held));
+        (rw (on (bounded_told s bounded), order, account) bound, omega (arith, on (bounded_told s bounded), ap length passed.held, length-drop n (pending s.window), held));
     steps = λ known file rest stands fits_file there still.
         let near = told known file rest s stands fits_file (omega (arith, size, held)) in
         subst (λ q. Onward file rest s t q) (sym (outcome ∙ still)) (
           stood file rest near stands,
-          λ out comes.
-              let a : SettlesTo s.table file t.window.offset t.order t.account out = subst (λ x. SettlesTo x file t.window.offset t.order t.account out) table comes in
-              let b : SettlesTo s.table file (s.window.offset + n) t.order t.account out = subst (λ x. SettlesTo s.table file x t.order t.account out) (on near) a in
-              let d : SettlesTo s.table file (s.window.offset + n) o' t.account out = subst (λ x. SettlesTo s.table file (s.window.offset + n) x t.account out) order b in
-              let e : SettlesTo s.table file (s.window.offset + n) o' ch out = subst (λ x. SettlesTo s.table file (s.window.offset + n) o' x out) chosen d in
-              goes_on s.table file s.window.offset n s.order o' s.account ch tag content out (here follows file rest stands there) no_end puts e,
+          λ out comes. goes_on s.table file s.window.offset n s.order o' s.account ch tag content out (here follows file rest stands there) no_end puts (rw (table, on near, order, account) at comes),
         );
   }
     where
@@ -130,13 +121,13 @@ ended ch p (Some out) e still = cc
 -- the step of an end record, after which u is what the order left
 pub end_step : (s u t : Settlement) (content : List ℕ) (n : ℕ) (r : Answer) → u.table ≡ s.table → u.window ≡ s.window → u.account ≡ s.account → Ends u s.window.offset n r t → n ≡ 3 → n ≤ length (pending s.window)
     → Follows s.order tags.End s.window.offset (Ok tt) u.order → AnswersForAnyFile s.window (Ok (Some tags.End, content, n)) → StepsOn s r t
-end_step s u t content n r table window chosen ends three held follows whole = record {
+end_step s u t content n r table window account ends three held follows whole = record {
   table = ends.table ∙ table;
   finished = ap (λ (w : Window). w.finished) (ends.window ∙ window);
   grows = λ ok bounded still.
       ⊎_elim
-      (λ more. cc (when_so _ _ _ more ends.answer))
-      (λ none. absurd (ended u.account s.window.offset t.outcome (subst (λ q. EndsIn u.account s.window.offset q t.outcome) ok (when_else _ _ _ none ends.answer)) still))
+      (λ more. cc (MatchBool-at_true _ _ more ends.answer))
+      (λ none. absurd (ended u.account s.window.offset t.outcome (subst (λ q. EndsIn u.account s.window.offset q t.outcome) ok (MatchBool-at_false _ _ none ends.answer)) still))
       (cases_Bool (ltb n (length (pending u.window))));
   steps = λ known file rest stands fits there still.
       let p = s.window.offset in
@@ -148,11 +139,11 @@ end_step s u t content n r table window chosen ends three held follows whole = r
       let longer : n < length (drop p file) = omega (arith, ltb-true n (length (pending u.window)) more, same, ap length stands.on, length-append (pending s.window) rest) in
       let place : min (p + n) most_offset ≡ p + n = omega (arith, near, held) in
       let refusal : ℕ → Answer = λ q. Err (fault BytesAfterEnd q) in
-      subst (λ q. StepIn file rest s q t) (sym (when_so _ _ _ more ends.answer ∙ ap refusal place)) (too_long s.table file p n s.order u.order s.account content here longer))
+      subst (λ q. StepIn file rest s q t) (sym (MatchBool-at_true _ _ more ends.answer ∙ ap refusal place)) (too_long s.table file p n s.order u.order s.account content here longer))
       (λ none.
       let few : length (pending s.window) ≤ n = omega (arith, ltb-false n (length (pending u.window)) none, same) in
       let done : s.window.finished ≡ true = finished_when s.window there (omega (arith, few, three)) in
       let alone : length (drop p file) ≤ n = omega (arith, ap length (all_held file rest s.window stands done), few) in
-      in_end s t file rest content n u.order here alone r t.outcome refl (subst (λ h. EndsIn h p r t.outcome) chosen (when_else _ _ _ none ends.answer)))
+      in_end s t file rest content n u.order here alone r t.outcome refl (subst (λ h. EndsIn h p r t.outcome) account (MatchBool-at_false _ _ none ends.answer)))
       (cases_Bool (ltb n (length (pending u.window))));
 }
