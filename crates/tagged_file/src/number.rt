@@ -14,10 +14,11 @@ fn bytes<const N: usize>(content: &[u8], at: usize) -> [u8; N]
     ensures { (k : ℕ) → k < N → slice_index result k ≡ byte_at content.now (at + k) }
 {
     let rest = &content[at.min(content.len())..];
-    let mut bytes = [0; N];
-    for (place, slot) in bytes.iter_mut().enumerate() {
-        *slot = byte(rest, place);
+    if let Some(bytes) = rest.first_chunk() {
+        return *bytes;
     }
+    let mut bytes = [0; N];
+    bytes[..rest.len()].copy_from_slice(rest);
     bytes
 }
 
