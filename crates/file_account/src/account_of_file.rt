@@ -98,7 +98,7 @@ impl<O: SettlementOption + Drop> AccountOfFile<O> {
             Record::Contract(content) => self.begin_contract(number32(content, 0)),
             Record::Quarter(content) => self.enter_quarter(
                 calendar,
-                number16(content, 0) as u32,
+                u32::from(number16(content, 0)),
                 amounts_offered(content),
             ),
             Record::Remark(_) => Ok(()),

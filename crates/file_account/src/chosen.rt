@@ -1,4 +1,4 @@
-// The account under the option that the file's year record names.
+// The account under the option that a file's year record names.
 ghost use Rattle.file_account.specs.Choosing.{NamesOption, BeforeYear, ChosenPuts, ChosenSettles};
 ghost use Rattle.tagged_file.specs.Format.{tag_in, content_in};
 
@@ -12,20 +12,23 @@ use statement::Statement;
 use tagged_file::number::{byte, number16};
 use tagged_file::record::Record;
 
+// The bytes that name the options in a year record.
+const FLAT: u8 = 0;
+
+const DELIMITATION: u8 = 1;
+
 #[derive(Drop)]
 pub enum Chosen {
-    // No year record yet.
-    None,
     Flat(AccountOfFile<FlatOption>),
     Delimitation(AccountOfFile<DelimitationOption>),
 }
 
 // Only remarks stand before the year.
-fn before_the_year(record: &Record) -> Result<Chosen, Fault>
+fn before_the_year(record: &Record) -> Result<(), Fault>
     ensures { BeforeYear (tag_in «record».now) result }
 {
     match record {
-        Record::Remark(_) => Ok(Chosen::None),
+        Record::Remark(_) => Ok(()),
         _ => Err(Cause::OutOfOrder.at(0)),
     }
 }
@@ -37,36 +40,47 @@ impl Chosen {
     {
         let year = number16(content, 0);
         match byte(content, 2) {
-            0 => Ok(Chosen::Flat(AccountOfFile::of_year(year)?)),
-            1 => Ok(Chosen::Delimitation(AccountOfFile::of_year(year)?)),
+            FLAT => AccountOfFile::of_year(year).map(Chosen::Flat),
+            DELIMITATION => AccountOfFile::of_year(year).map(Chosen::Delimitation),
             _ => Err(Cause::OptionUnknown.at(0)),
         }
     }
 
-    // The account after a record other than the end.
-    pub fn put<C: ValueCalendar>(self, calendar: &C, record: &Record) -> Result<Chosen, Fault>
-        ensures { ChosenPuts C.ValueCalendar calendar.now self (tag_in «record».now) (content_in «record».now) result }
+    // Puts a record other than the end to a file's account, of which there is none before the year record.
+    // The account is moved out and back in, since a pattern that lends it out of its variant has no proof.
+    pub fn put<C: ValueCalendar>(
+        account: &mut Option<Chosen>,
+        calendar: &C,
+        record: &Record,
+    ) -> Result<(), Fault>
+        ensures { ChosenPuts C.ValueCalendar calendar.now account.old (tag_in «record».now) (content_in «record».now) result account.new }
     {
-        match (self, record) {
-            (_, Record::Year(content)) => Chosen::of_year(content),
-            (Chosen::None, record) => before_the_year(record),
-            (Chosen::Flat(mut account), record) => {
-                account.put(calendar, record)?;
-                Ok(Chosen::Flat(account))
+        if let Record::Year(content) = record {
+            *account = Some(Chosen::of_year(content)?);
+            return Ok(());
+        }
+        let Some(chosen) = account.take() else {
+            return before_the_year(record);
+        };
+        match chosen {
+            Chosen::Flat(mut flat) => {
+                let answer = flat.put(calendar, record);
+                *account = Some(Chosen::Flat(flat));
+                answer
             }
-            (Chosen::Delimitation(mut account), record) => {
-                account.put(calendar, record)?;
-                Ok(Chosen::Delimitation(account))
+            Chosen::Delimitation(mut delimitation) => {
+                let answer = delimitation.put(calendar, record);
+                *account = Some(Chosen::Delimitation(delimitation));
+                answer
             }
         }
     }
 
     // The statement at the end of the file.
-    pub fn settle(self, statement: &mut Statement) -> Result<(), Fault>
-        ensures { ChosenSettles self result statement.old statement.new }
+    pub fn settle(account: Option<Chosen>, statement: &mut Statement) -> Result<(), Fault>
+        ensures { ChosenSettles account result statement.old statement.new }
     {
-        match self {
-            Chosen::None => Err(Cause::OutOfOrder.at(0)),
+        match account.ok_or(Cause::OutOfOrder.at(0))? {
             Chosen::Flat(account) => account.settle(statement),
             Chosen::Delimitation(account) => account.settle(statement),
         }

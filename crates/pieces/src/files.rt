@@ -27,23 +27,23 @@ const REMARKS: u16 = 4_096;
 // Those after the year and after each plant.
 const EARLIER_REMARKS: u16 = 9;
 
+// Draw, feed-in, store in and store out of a quarter: its number times the first, modulo the second.
+const AMOUNTS: [(u32, u32); 4] = [(37, 1_300), (53, 2_500), (13, 500), (29, 400)];
+
 fn add_remark(file: &mut Vec<u8>, length: u16) -> anyhow::Result<()> {
     file.push(5)?;
     file.extend_from_slice(&length.to_be_bytes())?;
-    for place in 0..length {
-        file.push((place % 251) as u8)?;
-    }
+    file.extend((0..length).map(|place| (place % 251) as u8))?;
     Ok(())
 }
 
 fn add_quarter(file: &mut Vec<u8>, quarter: u16) -> anyhow::Result<()> {
-    let number = quarter as u32;
     file.extend_from_slice(&[4, 0, 18])?;
     file.extend_from_slice(&quarter.to_be_bytes())?;
-    file.extend_from_slice(&(number * 37 % 1_300).to_be_bytes())?;
-    file.extend_from_slice(&(number * 53 % 2_500).to_be_bytes())?;
-    file.extend_from_slice(&(number * 13 % 500).to_be_bytes())?;
-    file.extend_from_slice(&(number * 29 % 400).to_be_bytes())?;
+    for (factor, end) in AMOUNTS {
+        let amount = u32::from(quarter) * factor % end;
+        file.extend_from_slice(&amount.to_be_bytes())?;
+    }
     Ok(())
 }
 
@@ -51,9 +51,9 @@ fn add_quarter(file: &mut Vec<u8>, quarter: u16) -> anyhow::Result<()> {
 pub fn remarked_year(heap: Global) -> anyhow::Result<Vec<u8>> {
     let mut file = Vec::new(heap);
     file.extend_from_slice(&YEAR)?;
-    for place in 0..8 {
-        add_remark(&mut file, place % 7)?;
-        file.extend_from_slice(&PLANTS[place as usize])?;
+    for (place, plant) in PLANTS.iter().enumerate() {
+        add_remark(&mut file, (place % 7) as u16)?;
+        file.extend_from_slice(plant)?;
     }
     add_remark(&mut file, 8 % 7)?;
     file.extend_from_slice(&CONTRACT)?;

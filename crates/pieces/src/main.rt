@@ -11,59 +11,75 @@ use std::fs;
 // Sizes about one byte, about a quarter record, and about twice what is read at once.
 const SIZES: [usize; 9] = [1, 2, 3, 20, 21, 22, 65_535, 65_536, 65_537];
 
+// What is read at once.
+const PIECE: usize = 32_768;
+
 // The bytes of the longest record: 1,027.
 const LONGEST: u16 = 1_027;
 
-// What a file comes to, in pieces of this size.
-fn outcome(rt: &HostRuntime, table: &[u8], file: &[u8], size: usize) -> anyhow::Result<String> {
-    match settle_bytes(PublishedTable::new(table), file, size) {
-        Ok(statement) => Ok(format!(in rt.alloc(); "{statement}")?),
-        Err(fault) => Ok(format!(in rt.alloc(); "{fault}\n")?),
-    }
+// Settles files by one table, and prints what they come to.
+#[derive(Clone, Copy)]
+struct Trial<'r, 't> {
+    rt: &'r HostRuntime,
+    table: PublishedTable<'t>,
 }
 
-// One year with remarks, in pieces of each size.
-fn sizes(rt: &HostRuntime, table: &[u8]) -> anyhow::Result<()> {
-    let file = remarked_year(rt.alloc())?;
-    for size in SIZES {
-        let text = outcome(rt, table, &file, size)?;
-        print!(rt;
-            "a year of {} bytes in pieces of {size}:\n{text}",
-            file.len()
-        )?;
+impl Trial<'_, '_> {
+    // What a file comes to, in pieces of this size.
+    fn outcome(&self, file: &[u8], size: usize) -> anyhow::Result<String> {
+        let text = match settle_bytes(self.table, file, size) {
+            Ok(statement) => format!(in self.rt.alloc(); "{statement}")?,
+            Err(fault) => format!(in self.rt.alloc(); "{fault}\n")?,
+        };
+        Ok(text)
     }
-    Ok(())
-}
 
-// A remark of so many bytes, or a quarter, lies over the edge of the first piece at each of its bytes, and then over none.
-fn over_the_edge(rt: &HostRuntime, table: &[u8], long: u16, shifts: u16) -> anyhow::Result<()> {
-    let first = outcome(rt, table, &shifted(rt.alloc(), 0, long)?, 1)?;
-    for shift in 0..shifts {
-        let text = outcome(rt, table, &shifted(rt.alloc(), shift, long)?, 32_768)?;
-        if text != first {
-            print!(rt; "shifted by {shift}, with a remark of {long}:\n{text}")?;
+    // One year with remarks, in pieces of each size.
+    fn sizes(&self) -> anyhow::Result<()> {
+        let file = remarked_year(self.rt.alloc())?;
+        for size in SIZES {
+            let text = self.outcome(&file, size)?;
+            print!(self.rt;
+                "a year of {} bytes in pieces of {size}:\n{text}",
+                file.len()
+            )?;
         }
+        Ok(())
     }
-    print!(rt; "all of {shifts} shifted files, with a remark of {long}:\n{first}")?;
-    Ok(())
-}
 
-// The place of a refusal is shifted with its record.
-fn refused(rt: &HostRuntime, table: &[u8]) -> anyhow::Result<()> {
-    for shift in 0..43 {
-        let mut file = shifted(rt.alloc(), shift, 0)?;
-        file.push(0)?;
-        let text = outcome(rt, table, &file, 32_768)?;
-        print!(rt; "a byte after the end, shifted by {shift}: {text}")?;
+    // A remark of so many bytes, or a quarter, lies over the edge of the first piece at each of its bytes, and then over none.
+    fn over_the_edge(&self, long: u16, shifts: u16) -> anyhow::Result<()> {
+        let first = self.outcome(&shifted(self.rt.alloc(), 0, long)?, 1)?;
+        for shift in 0..shifts {
+            let text = self.outcome(&shifted(self.rt.alloc(), shift, long)?, PIECE)?;
+            if text != first {
+                print!(self.rt; "shifted by {shift}, with a remark of {long}:\n{text}")?;
+            }
+        }
+        print!(self.rt; "all of {shifts} shifted files, with a remark of {long}:\n{first}")?;
+        Ok(())
     }
-    Ok(())
+
+    // The place of a refusal is shifted with its record.
+    fn refused(&self) -> anyhow::Result<()> {
+        for shift in 0..43 {
+            let mut file = shifted(self.rt.alloc(), shift, 0)?;
+            file.push(0)?;
+            let text = self.outcome(&file, PIECE)?;
+            print!(self.rt; "a byte after the end, shifted by {shift}: {text}")?;
+        }
+        Ok(())
+    }
 }
 
 fn main(rt: HostRuntime) -> anyhow::Result<()> {
     let table = fs::read(&rt, "calendar.bin")?;
-    sizes(&rt, &table)?;
-    over_the_edge(&rt, &table, LONGEST - 3, LONGEST + 4)?;
-    over_the_edge(&rt, &table, 0, 43)?;
-    refused(&rt, &table)?;
-    Ok(())
+    let trial = Trial {
+        rt: &rt,
+        table: PublishedTable::new(&table),
+    };
+    trial.sizes()?;
+    trial.over_the_edge(LONGEST - 3, LONGEST + 4)?;
+    trial.over_the_edge(0, 43)?;
+    trial.refused()
 }

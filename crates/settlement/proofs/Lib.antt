@@ -5,4 +5,3 @@ pub mod Outcomes
 pub mod Reading
 pub mod Stepping
 pub mod Turning
-pub mod Tested

@@ -1,5 +1,5 @@
 -- What a file comes to, from the step that is made at its front. Assumes nothing.
-use Rattle.std.proofs.Common.{◌≡◌, ℕ, ◌+◌, ◌<◌, ◌≤◌, List, [], ◌∷◌, length, drop, Some, Ok, Err, Result, sym, refl, ◌∙◌, inl, inr}
+use Rattle.std.proofs.Common.{◌≡◌, ℕ, ◌+◌, ◌<◌, ◌≤◌, List, [], ◌∷◌, length, drop, Some, None, Ok, Err, Option, Result, sym, refl, ◌∙◌, inl, inr}
 use Rattle.fault.specs.declared.Fault.{Fault}
 use Rattle.fault.specs.declared.cause.Cause.TheVariants.{BytesAfterEnd}
 use Rattle.fault.specs.Questions.{fault}
@@ -16,13 +16,12 @@ use Rattle.tagged_file.specs.Spelling.{Placed, ended, broken_off, StandsHere, no
 use Rattle.tagged_file.proofs.Spelled.{spelled}
 use Rattle.tagged_file.proofs.SpelledOnce.{once}
 use Rattle.file_account.specs.declared.chosen.Chosen.{Chosen}
-use Rattle.file_account.specs.declared.chosen.Chosen.TheVariants as chosen
-use Rattle.file_account.specs.Choosing.{ChosenPuts, ChosenSettles}
+use Rattle.file_account.specs.Choosing.{ChosenPuts, ChosenRefuses, ChosenSettles}
 use Rattle.settlement.specs.Spelled.{SettlesTo, FileSettlesTo}
 
 module _ (table : PublishedTable) (file : List ℕ) where
   -- from the first byte on
-  pub from_start : (o : Order) (out : Result Statement Fault) → AtStart o → SettlesTo table file 0 o chosen.None out → FileSettlesTo table file out
+  pub from_start : (o : Order) (out : Result Statement Fault) → AtStart o → SettlesTo table file 0 o None out → FileSettlesTo table file out
   from_start o out start comes = record {
     order = o;
     start = start;
@@ -31,23 +30,23 @@ module _ (table : PublishedTable) (file : List ℕ) where
   }
 
   -- the bytes there are no record
-  pub unreadable : (p : ℕ) (o : Order) (s : Chosen) (f : Fault) → decoded p (drop p file) ≡ Err f → SettlesTo table file p o s (Err f)
+  pub unreadable : (p : ℕ) (o : Order) (s : Option Chosen) (f : Fault) → decoded p (drop p file) ≡ Err f → SettlesTo table file p o s (Err f)
   unreadable p o s f e = record { records = []; ending = broken_off f; spells = no_record e; outcome = refl }
 
   -- the record there may not stand there
-  pub misplaced : (p n : ℕ) (o o' : Order) (s : Chosen) (f : Fault) (tag : Tag) (content : List ℕ) → decoded p (drop p file) ≡ Ok (Some tag, content, n) → Follows o tag p (Err f) o' → SettlesTo table file p o s (Err f)
+  pub misplaced : (p n : ℕ) (o o' : Order) (s : Option Chosen) (f : Fault) (tag : Tag) (content : List ℕ) → decoded p (drop p file) ≡ Ok (Some tag, content, n) → Follows o tag p (Err f) o' → SettlesTo table file p o s (Err f)
   misplaced p n o o' s f tag content e follows = record { records = []; ending = broken_off f; spells = out_of_order o' e follows; outcome = refl }
 
-  module _ (p n : ℕ) (o o' : Order) (s : Chosen) where
+  module _ (p n : ℕ) (o o' : Order) (s : Option Chosen) where
     -- the account refuses the record, whatever the file spells after it
-    pub refused : (tag : Tag) (content : List ℕ) (f : Fault) → StandsHere file p o tag content n o' → (tag ≡ tags.End → ⊥) → ChosenPuts table_calendar table s tag content (Err f) → SettlesTo table file p o s (Err (fault f.cause p))
+    pub refused : (tag : Tag) (content : List ℕ) (f : Fault) → StandsHere file p o tag content n o' → (tag ≡ tags.End → ⊥) → ChosenRefuses table_calendar table s tag content f → SettlesTo table file p o s (Err (fault f.cause p))
     refused tag content f here no_end puts =
         let rest = spelled file (p + n) o' in
         let r : Placed = record { offset = p; tag = tag; content = content; size = n } in
         record { records = r ∷ rest.0; ending = rest.1; spells = one_more here no_end rest.2; outcome = inr (f, puts, refl) }
 
     -- the account takes the record, and the file goes on after it
-    pub goes_on : (t : Chosen) (tag : Tag) (content : List ℕ) (out : Result Statement Fault) → StandsHere file p o tag content n o' → (tag ≡ tags.End → ⊥) → ChosenPuts table_calendar table s tag content (Ok t)
+    pub goes_on : (t : Option Chosen) (tag : Tag) (content : List ℕ) (out : Result Statement Fault) → StandsHere file p o tag content n o' → (tag ≡ tags.End → ⊥) → ChosenPuts table_calendar table s tag content (Ok tt) t
         → SettlesTo table file (p + n) o' t out → SettlesTo table file p o s out
     goes_on t tag content out here no_end puts comes =
         let r : Placed = record { offset = p; tag = tag; content = content; size = n } in

@@ -3,7 +3,7 @@ use Rattle.std.proofs.Common.{◌≡◌, ℕ, ◌+◌, ◌-◌, ◌<◌, ◌≤�
 use Rattle.fault.specs.declared.Fault.{Fault}
 use Rattle.calendar.specs.declared.published_table.PublishedTable.{PublishedTable}
 use Rattle.statement.specs.declared.Statement.{Statement}
-use Rattle.window.proofs.Parts.{length_part_le}
+use Rattle.window.proofs.Standing.{pending_most}
 use Rattle.window.specs.Limits.{window_bytes}
 use Rattle.settlement.specs.declared.settlement.Settlement.{Settlement}
 use Rattle.settlement.specs.Spelled.{FileSettlesTo}
@@ -21,7 +21,7 @@ to_come s = cond (open_still s.outcome) (1 + (longest_open + window_bytes - came
 
 held_most : (s : Settlement) → BoundedHere s → came_in s ≤ longest_open + window_bytes
 held_most s bounded =
-    omega (arith, bounded_most s.order s.chosen s.window.offset bounded, length_part_le s.window.bytes s.window.start s.window.end, s.window.within)
+    omega (arith, bounded_most s.order s.account s.window.offset bounded, pending_most s.window)
 
 -- each piece that brings a byte leaves less to come
 pub less_to_come : (s t : Settlement) (n : ℕ) → open_still s.outcome ≡ true → BoundedHere s → 0 < n → Grows s n t → to_come t < to_come s

@@ -1,5 +1,5 @@
 -- How far a file can come: what the records that the order and the account take occupy at most. Assumes nothing.
-use Rattle.std.specs.Prelude.{◌≡◌, ℕ, ◌+◌, ◌*◌, ◌≤◌, true, false, length}
+use Rattle.std.specs.Prelude.{◌≡◌, ℕ, ◌+◌, ◌*◌, ◌≤◌, true, false, length, Some, None, Option}
 use Rattle.tagged_file.specs.declared.order.Order.{Order}
 use Rattle.tagged_file.specs.Follows.{has_year}
 use Rattle.tagged_file.specs.Format.{longest_bytes}
@@ -18,22 +18,22 @@ account_bytes (states.Draft d) = 10 * d.register.count
 account_bytes (states.Opened a) = 10 * a.draft.register.count + 7 * a.ledger.begun + 21 * a.ledger.entered
 
 -- a year record has 6
-abbrev pub chosen_bytes : Chosen → ℕ
-chosen_bytes chosen.None = 0
-chosen_bytes (chosen.Flat s) = 6 + account_bytes s
-chosen_bytes (chosen.Delimitation s) = 6 + account_bytes s
+abbrev pub chosen_bytes : Option Chosen → ℕ
+chosen_bytes None = 0
+chosen_bytes (Some (chosen.Flat s)) = 6 + account_bytes s
+chosen_bytes (Some (chosen.Delimitation s)) = 6 + account_bytes s
 
 -- the most bytes of the records so far: a remark may be as long as the longest record
-abbrev pub most_bytes : Order → Chosen → ℕ
+abbrev pub most_bytes : Order → Option Chosen → ℕ
 most_bytes o s = longest_bytes * o.remarks + chosen_bytes s
 
 -- before the year there is no account, and no more bytes stand before an offset than the records so far occupy at most
-pub record Bounded (o : Order) (s : Chosen) (p : ℕ) : Type 0 where
-  pub unbegun : has_year o.stage ≡ false → s ≡ chosen.None
+pub record Bounded (o : Order) (s : Option Chosen) (p : ℕ) : Type 0 where
+  pub unbegun : has_year o.stage ≡ false → s ≡ None
   pub bytes : p ≤ most_bytes o s
 
 abbrev pub BoundedHere : Settlement → Type 0
-BoundedHere s = Bounded s.order s.chosen s.window.offset
+BoundedHere s = Bounded s.order s.account s.window.offset
 
 -- the most bytes before the end record: the year, eight plants, four contracts, the quarters of a leap year, and all remarks
 abbrev pub longest_open : ℕ

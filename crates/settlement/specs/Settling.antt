@@ -1,5 +1,5 @@
 -- A file that is being settled, wherever it stands. Assumes nothing.
-use Rattle.std.specs.Prelude.{◌≡◌, ℕ, ◌+◌, ◌≤◌, min, true, false, List, [], ◌++◌, length, Ok, Err, MatchBool, Result, nat_lt}
+use Rattle.std.specs.Prelude.{◌≡◌, ℕ, ◌+◌, ◌≤◌, min, true, false, List, [], ◌++◌, length, Some, None, Ok, Err, MatchBool, Option, Result, nat_lt}
 use Rattle.fault.specs.declared.Fault.{Fault}
 use Rattle.fault.specs.declared.cause.Cause.TheVariants.{BytesAfterEnd}
 use Rattle.fault.specs.Questions.{Answer, fault}
@@ -10,41 +10,44 @@ use Rattle.window.specs.Limits.{most_offset}
 use Rattle.tagged_file.specs.Spelling.{ended}
 use Rattle.window.specs.Lying.{LiesIn}
 use Rattle.window.specs.Standing.{Stands}
-use Rattle.settlement.specs.declared.settlement.Outcome.{Outcome}
-use Rattle.settlement.specs.declared.settlement.Outcome.TheVariants.{Open, Settled, Refused}
 use Rattle.settlement.specs.declared.settlement.Settlement.{Settlement}
 use Rattle.file_account.specs.declared.chosen.Chosen.{Chosen}
 use Rattle.settlement.specs.Files.{Comes, ComesTo}
 use Rattle.settlement.specs.Spelled.{EndsWith, SettlesTo, FileSettlesTo}
 use Rattle.settlement.specs.Longest.{BoundedHere, Grows}
-use Rattle.settlement.specs.Progress.{open_still}
+use Rattle.settlement.specs.Progress.{Outcome, open_still}
+
+-- an answer of the account, where a fault gets this place
+abbrev pub placed : ℕ → Answer → Answer
+placed p (Ok _) = Ok tt
+placed p (Err f) = Err (fault f.cause p)
 
 -- what the file comes to from here on
 abbrev pub ComesHere : List ℕ → Settlement → Result Statement Fault → Type 0
-ComesHere file s out = SettlesTo s.table file s.window.offset s.order s.chosen out
+ComesHere file s out = SettlesTo s.table file s.window.offset s.order s.account out
 
 -- after one step: what the file comes to from there on it came to before, or it has come to its outcome
 abbrev pub Onward : List ℕ → List ℕ → Settlement → Settlement → Outcome → Type 0
-Onward file rest s t Open = LiesIn file t.window rest × ((out : Result Statement Fault) → ComesHere file t out → ComesHere file s out)
-Onward file rest s t (Settled statement) = ComesHere file s (Ok statement)
-Onward file rest s t (Refused f) = ⊥
+Onward file rest s t None = LiesIn file t.window rest × ((out : Result Statement Fault) → ComesHere file t out → ComesHere file s out)
+Onward file rest s t (Some (Ok statement)) = ComesHere file s (Ok statement)
+Onward file rest s t (Some (Err f)) = ⊥
 
 abbrev pub StepIn : List ℕ → List ℕ → Settlement → Answer → Settlement → Type 0
 StepIn file rest s (Ok _) t = Onward file rest s t t.outcome
 StepIn file rest s (Err f) t = ComesHere file s (Err f)
 
 -- at the end: the statement, or the account's refusal at the end record's offset
-abbrev pub EndsIn : Chosen → ℕ → Answer → Outcome → Type 0
-EndsIn s p (Ok _) Open = ⊥
-EndsIn s p (Ok _) (Settled statement) = EndsWith (ended p) s (Ok statement)
-EndsIn s p (Ok _) (Refused f) = ⊥
+abbrev pub EndsIn : Option Chosen → ℕ → Answer → Outcome → Type 0
+EndsIn s p (Ok _) None = ⊥
+EndsIn s p (Ok _) (Some (Ok statement)) = EndsWith (ended p) s (Ok statement)
+EndsIn s p (Ok _) (Some (Err f)) = ⊥
 EndsIn s p (Err g) outcome = EndsWith (ended p) s (Err g)
 
 -- the end record, of this size at this offset: what more is held refuses it
 pub record Ends (s : Settlement) (p size : ℕ) (r : Answer) (t : Settlement) : Type 0 where
   pub table : t.table ≡ s.table
   pub window : t.window ≡ s.window
-  pub answer : MatchBool (nat_lt size (length (pending s.window))) (r ≡ Err (fault BytesAfterEnd (min (p + size) most_offset))) (EndsIn s.chosen p r t.outcome)
+  pub answer : MatchBool (nat_lt size (length (pending s.window))) (r ≡ Err (fault BytesAfterEnd (min (p + size) most_offset))) (EndsIn s.account p r t.outcome)
 
 -- by what it is known that an offset can tell where the bytes that are held end: by the file's length, or by what the records so far can occupy
 pub data Known : Type 0 where
@@ -60,13 +63,12 @@ pub record StepsOn (s : Settlement) (r : Answer) (t : Settlement) : Type 0 where
   pub table : t.table ≡ s.table
   pub finished : t.window.finished ≡ s.window.finished
   pub grows : r ≡ Ok tt → Grows s 0 t
-  pub steps : (known : Known) (file rest : List ℕ) → LiesIn file s.window rest → Told known file s → ready s.window ≡ true → s.outcome ≡ Open → StepIn file rest s r t
+  pub steps : (known : Known) (file rest : List ℕ) → LiesIn file s.window rest → Told known file s → ready s.window ≡ true → s.outcome ≡ None → StepIn file rest s r t
 
 -- where a settlement stands in a file of which this rest is still to come: as far as it is open, what the file comes to from here on is what it comes to as a whole; and an outcome is the file's, whatever is still to come
 abbrev pub Whereabouts : Known → PublishedTable → List ℕ → List ℕ → Settlement → Outcome → Type 0
-Whereabouts known table file rest s Open = LiesIn file s.window rest × Told known file s × ((out : Result Statement Fault) → SettlesTo table file s.window.offset s.order s.chosen out → FileSettlesTo table file out)
-Whereabouts known table file rest s (Settled statement) = FileSettlesTo table file (Ok statement)
-Whereabouts known table file rest s (Refused f) = FileSettlesTo table file (Err f)
+Whereabouts known table file rest s None = LiesIn file s.window rest × Told known file s × ((out : Result Statement Fault) → SettlesTo table file s.window.offset s.order s.account out → FileSettlesTo table file out)
+Whereabouts known table file rest s (Some out) = FileSettlesTo table file out
 
 pub record StandsIn (known : Known) (table : PublishedTable) (file rest : List ℕ) (s : Settlement) : Type 0 where
   pub by : s.table ≡ table
@@ -98,9 +100,8 @@ AnswersForAny s r = (known : Known) (table : PublishedTable) (file : List ℕ) �
 
 -- the same of files whose length an offset can tell, record by record
 abbrev pub At : PublishedTable → List ℕ → List ℕ → Settlement → Outcome → Type 0
-At table file rest s Open = Stands file s.window rest × ((out : Result Statement Fault) → Comes table file s.window.offset s.order s.chosen out → ComesTo table file out)
-At table file rest s (Settled statement) = ComesTo table file (Ok statement)
-At table file rest s (Refused f) = ComesTo table file (Err f)
+At table file rest s None = Stands file s.window rest × ((out : Result Statement Fault) → Comes table file s.window.offset s.order s.account out → ComesTo table file out)
+At table file rest s (Some out) = ComesTo table file out
 
 pub record InFile (table : PublishedTable) (file rest : List ℕ) (s : Settlement) : Type 0 where
   pub by : s.table ≡ table

@@ -32,10 +32,10 @@ impl<'a> Input for Pieces<'a> {
     type Error = Infallible;
 
     fn read_on(&mut self, piece: &mut [u8]) -> Result<usize, Infallible> {
-        let rest = self.rest;
-        let count = rest.len().min(piece.len()).min(self.size.max(1));
-        piece[0..count].copy_from_slice(&rest[0..count]);
-        self.rest = &rest[count..];
+        let count = self.rest.len().min(piece.len()).min(self.size.max(1));
+        let (front, rest) = self.rest.split_at(count);
+        piece[..count].copy_from_slice(front);
+        self.rest = rest;
         Ok(count)
     }
 }

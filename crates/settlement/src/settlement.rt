@@ -1,33 +1,32 @@
 // A file being settled: pieces of it come in, and each record is put to the account once it is held whole.
 ghost use Rattle.std.specs.Prelude.{◌≡◌};
 ghost use Rattle.settlement.specs.Progress.{open_still, Steps};
-ghost use Rattle.settlement.specs.Settling.{StepsOn, Ends, Keeps, WantsMore, StartsInAny, TakesAnyPiece, AnswersForAny, StartsIn, TakesPiece, AnswersFor};
+ghost use Rattle.settlement.specs.Settling.{placed, StepsOn, Ends, Keeps, WantsMore, StartsInAny, TakesAnyPiece, AnswersForAny, StartsIn, TakesPiece, AnswersFor};
 
 use calendar::published_table::PublishedTable;
 use fault::Fault;
 use fault::cause::Cause;
 use file_account::chosen::Chosen;
 use statement::Statement;
-use std::mem::replace;
 use tagged_file::order::Order;
 use tagged_file::record::Record;
 use window::Window;
 
-// How far a file has come.
-#[derive(Drop)]
-enum Outcome {
-    Open,
-    Settled(Statement),
-    Refused(Fault),
-}
-
+// The outcome is none while the file is open.
 #[derive(Drop)]
 pub struct Settlement<'t> {
     table: PublishedTable<'t>,
     window: Window,
     order: Order,
-    chosen: Chosen,
-    outcome: Outcome,
+    account: Option<Chosen>,
+    outcome: Option<Result<Statement, Fault>>,
+}
+
+// What the account answers to a record, with the record's offset as the place of a fault.
+fn placed(answer: Result<(), Fault>, offset: u64) -> Result<(), Fault>
+    ensures { result ≡ placed offset answer }
+{
+    answer.map_err(|fault| fault.cause.at(offset))
 }
 
 impl<'t> Settlement<'t> {
@@ -39,8 +38,8 @@ impl<'t> Settlement<'t> {
             table,
             window: Window::new(),
             order: Order::new(),
-            chosen: Chosen::None,
-            outcome: Outcome::Open,
+            account: None,
+            outcome: None,
         }
     }
 
@@ -48,7 +47,7 @@ impl<'t> Settlement<'t> {
     pub fn is_open(&self) -> bool
         ensures { result ≡ open_still self.now.outcome }
     {
-        matches!(self.outcome, Outcome::Open)
+        self.outcome.is_none()
     }
 
     // Takes in the next piece of the file. What is held whole is settled first, so that there is room.
@@ -71,11 +70,7 @@ impl<'t> Settlement<'t> {
     {
         self.window.finish();
         self.advance();
-        match self.outcome {
-            Outcome::Settled(statement) => Ok(statement),
-            Outcome::Refused(fault) => Err(fault),
-            Outcome::Open => Err(Cause::HeaderCutOff.at(self.window.offset())),
-        }
+        self.outcome.unwrap()
     }
 
     // Settles the records that are held whole.
@@ -85,7 +80,7 @@ impl<'t> Settlement<'t> {
     {
         while self.is_open() && self.window.is_ready() {
             if let Err(fault) = self.step() {
-                self.outcome = Outcome::Refused(fault);
+                self.outcome = Some(Err(fault));
             }
         }
     }
@@ -101,14 +96,9 @@ impl<'t> Settlement<'t> {
         if let Record::End = record {
             return self.end(offset, size);
         }
-        match replace(&mut self.chosen, Chosen::None).put(&self.table, &record) {
-            Ok(chosen) => {
-                self.chosen = chosen;
-                self.window.pass(size);
-                Ok(())
-            }
-            Err(fault) => Err(fault.cause.at(offset)),
-        }
+        placed(Chosen::put(&mut self.account, &self.table, &record), offset)?;
+        self.window.pass(size);
+        Ok(())
     }
 
     // The end record: nothing may follow it, and the account gives its statement.
@@ -120,12 +110,8 @@ impl<'t> Settlement<'t> {
             return Err(Cause::BytesAfterEnd.at(offset.saturating_add(size as u64)));
         }
         let mut statement = Statement::blank();
-        match replace(&mut self.chosen, Chosen::None).settle(&mut statement) {
-            Ok(()) => {
-                self.outcome = Outcome::Settled(statement);
-                Ok(())
-            }
-            Err(fault) => Err(fault.cause.at(offset)),
-        }
+        placed(Chosen::settle(self.account.take(), &mut statement), offset)?;
+        self.outcome = Some(Ok(statement));
+        Ok(())
     }
 }

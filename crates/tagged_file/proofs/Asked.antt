@@ -24,7 +24,7 @@ right_le tags.End n e = omega (arith, eqb-true n _ e)
 
 right_for_le : (o : Option Tag) (n : ℕ) → right_for o n ≡ true → n ≤ most_remark
 right_for_le (Some t) n e = right_le t n e
-right_for_le None n e = absurd (let z : ◌≡◌ {A = ℕ} 0 1 = cc in omega arith)
+right_for_le None n e = cc
 
 -- every question gets a yes
 abbrev Yes : List (Bool × Cause) → Type 0
@@ -35,7 +35,7 @@ Yes (q ∷ qs) = (q.0 ≡ true) × Yes qs
 asked_ok : {T : Type 0} (p : ℕ) (qs : List (Bool × Cause)) (x y : T) → ◌≡◌ {A = Result T Fault} (Ok y) (asked p qs (Ok x)) → Yes qs × (x ≡ y)
 asked_ok p [] x y e = (tt, cc)
 asked_ok p ((true, c) ∷ qs) x y e = let on = asked_ok p qs x y e in ((refl, on.0), on.1)
-asked_ok p ((false, c) ∷ qs) x y e = absurd (let z : ◌≡◌ {A = ℕ} 0 1 = cc in omega arith)
+asked_ok p ((false, c) ∷ qs) x y e = cc
 
 -- a record that stands in some bytes fits
 pub decoded_fits : (p : ℕ) (bs : List ℕ) (tag : Tag) (content : List ℕ) (n : ℕ) → Ok (Some tag, content, n) ≡ decoded p bs → FitsAs bs tag content n
@@ -53,7 +53,7 @@ decoded_known p bs content n e =
     let on = asked_ok p (questions bs) (tag_here bs, content_here bs, size_here bs) (None, content, n) e in
     let none : is_some (tag_here bs) ≡ false = ap (λ x. is_some x.0) on.1 in
     let some : is_some (tag_here bs) ≡ true = on.0.1.0 in
-    let z : ◌≡◌ {A = ℕ} 0 1 = cc in omega arith
+    cc
 
 -- and so does one that was read
 pub any_fits : (p : ℕ) (bs : List ℕ) (r : Result (Record × ℕ) Fault) → seen r ≡ decoded p bs → AnyFits bs r

@@ -1,4 +1,3 @@
 pub mod Asked
-pub mod Capped
 pub mod Spelled
 pub mod SpelledOnce

@@ -33,11 +33,11 @@ followed o tag p =
     (cases_Bool (allowed o.stage o.remarks tag))
 
 end_or_not : (tag : Tag) → (tag ≡ tags.End) ⊎ (tag ≡ tags.End → ⊥)
-end_or_not tags.Year = inr (λ e. let z : ◌≡◌ {A = ℕ} 0 1 = cc in omega arith)
-end_or_not tags.Plant = inr (λ e. let z : ◌≡◌ {A = ℕ} 0 1 = cc in omega arith)
-end_or_not tags.Contract = inr (λ e. let z : ◌≡◌ {A = ℕ} 0 1 = cc in omega arith)
-end_or_not tags.Quarter = inr (λ e. let z : ◌≡◌ {A = ℕ} 0 1 = cc in omega arith)
-end_or_not tags.Remark = inr (λ e. let z : ◌≡◌ {A = ℕ} 0 1 = cc in omega arith)
+end_or_not tags.Year = inr (λ e. cc)
+end_or_not tags.Plant = inr (λ e. cc)
+end_or_not tags.Contract = inr (λ e. cc)
+end_or_not tags.Quarter = inr (λ e. cc)
+end_or_not tags.Remark = inr (λ e. cc)
 end_or_not tags.End = inl refl
 
 module _ (file : List ℕ) where

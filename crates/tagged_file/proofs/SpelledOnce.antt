@@ -44,24 +44,24 @@ module _ (file : List ℕ) where
       → StandsHere file p o' tag' content' n' u' → ⊥
   clash p o o' u u' {tag} {tag'} {content} {content'} {n} {n'} {f} like d refused h =
       let same : ◌≡◌ {A = Answer} (Err f) (Ok tt) = same_answer o o' tag tag' p (Err f) (Ok tt) u u' like (parts (decoded p (drop p file)) d h.is).0 refused h.allowed in
-      let z : ◌≡◌ {A = ℕ} 0 1 = cc in omega arith
+      cc
 
   back : (o o' : Order) → Alike o o' → Alike o' o
   back o o' like = (sym like.0, sym like.1)
 
   pub once : {p : ℕ} {o o' : Order} {r r' : List Placed} {e e' : Ending} → Alike o o' → Spells file p o r e → Spells file p o' r' e' → (r ≡ r') × (e ≡ e')
   once like (no_record d) (no_record d') = (refl, cc)
-  once like (no_record d) (out_of_order u d' f) = absurd (let z : ◌≡◌ {A = ℕ} 0 1 = cc in omega arith)
-  once like (no_record d) (one_more h no_end more) = absurd (let i = h.is in let z : ◌≡◌ {A = ℕ} 0 1 = cc in omega arith)
-  once like (no_record d) (past_end h long) = absurd (let i = h.is in let z : ◌≡◌ {A = ℕ} 0 1 = cc in omega arith)
-  once like (no_record d) (at_end h none) = absurd (let i = h.is in let z : ◌≡◌ {A = ℕ} 0 1 = cc in omega arith)
-  once like (out_of_order u d f) (no_record d') = absurd (let z : ◌≡◌ {A = ℕ} 0 1 = cc in omega arith)
+  once like (no_record d) (out_of_order u d' f) = cc
+  once like (no_record d) (one_more h no_end more) = cc
+  once like (no_record d) (past_end h long) = cc
+  once like (no_record d) (at_end h none) = cc
+  once like (out_of_order u d f) (no_record d') = cc
   once {p} {o} {o'} like (out_of_order {f = g} u d f) (out_of_order {f = g'} u' d' f') =
       (refl, let same : ◌≡◌ {A = Answer} (Err g) (Err g') = same_answer o o' _ _ p (Err g) (Err g') u u' like (parts (decoded p (drop p file)) d d').0 f f' in cc)
   once {p} {o} {o'} like (out_of_order u d f) (one_more {o' = u'} h no_end more) = absurd (clash p o o' u u' like d f h)
   once {p} {o} {o'} like (out_of_order u d f) (past_end {o' = u'} h long) = absurd (clash p o o' u u' like d f h)
   once {p} {o} {o'} like (out_of_order u d f) (at_end {o' = u'} h none) = absurd (clash p o o' u u' like d f h)
-  once like (one_more h no_end more) (no_record d') = absurd (let i = h.is in let z : ◌≡◌ {A = ℕ} 0 1 = cc in omega arith)
+  once like (one_more h no_end more) (no_record d') = cc
   once {p} {o} {o'} like (one_more {o' = u} h no_end more) (out_of_order u' d' f') = absurd (clash p o' o u' u (back o o' like) d' f' h)
   once {p} {o} {o'} {e = e} {e' = e'} like (one_more {n = n} {o' = u} {tag = tag} {content = content} {more = r} h no_end more) (one_more {n = n'} {o' = u'} {tag = tag'} {content = content'} {more = r'} h' no_end' more') =
       let same = parts (decoded p (drop p file)) h.is h'.is in
@@ -71,12 +71,12 @@ module _ (file : List ℕ) where
       (ap (λ l. first ∷ l) on.0 ∙ ap (λ x. x ∷ r') (placed_same p tag tag' content content' n n' same.0 same.1 same.2), on.1)
   once {p} like (one_more h no_end more) (past_end h' long) = absurd (no_end (parts (decoded p (drop p file)) h.is h'.is).0)
   once {p} like (one_more h no_end more) (at_end h' none) = absurd (no_end (parts (decoded p (drop p file)) h.is h'.is).0)
-  once like (past_end h long) (no_record d') = absurd (let i = h.is in let z : ◌≡◌ {A = ℕ} 0 1 = cc in omega arith)
+  once like (past_end h long) (no_record d') = cc
   once {p} {o} {o'} like (past_end {o' = u} h long) (out_of_order u' d' f') = absurd (clash p o' o u' u (back o o' like) d' f' h)
   once {p} like (past_end h long) (one_more h' no_end more) = absurd (no_end (parts (decoded p (drop p file)) h'.is h.is).0)
   once {p} like (past_end h long) (past_end h' long') = (refl, ap (λ m. broken_off (fault BytesAfterEnd (p + m))) (parts (decoded p (drop p file)) h.is h'.is).2)
   once {p} like (past_end h long) (at_end h' none) = absurd (omega (arith, long, none, (parts (decoded p (drop p file)) h.is h'.is).2))
-  once like (at_end h none) (no_record d') = absurd (let i = h.is in let z : ◌≡◌ {A = ℕ} 0 1 = cc in omega arith)
+  once like (at_end h none) (no_record d') = cc
   once {p} {o} {o'} like (at_end {o' = u} h none) (out_of_order u' d' f') = absurd (clash p o' o u' u (back o o' like) d' f' h)
   once {p} like (at_end h none) (one_more h' no_end more) = absurd (no_end (parts (decoded p (drop p file)) h'.is h.is).0)
   once {p} like (at_end h none) (past_end h' long) = absurd (omega (arith, long, none, (parts (decoded p (drop p file)) h.is h'.is).2))

@@ -1,7 +1,9 @@
 -- The tags of a tagged file, and how much content each of them takes. Assumes nothing.
-use Rattle.std.specs.Prelude.{ℕ, ◌+◌, Bool, cond, List, [], Some, None, Option, ◌==◌, nat_le}
+use Rattle.std.specs.Prelude.{ℕ, ◌+◌, Bool, cond, List, [], Some, None, Option, Result, ◌==◌, nat_le}
+use Rattle.std.specs.Option.{ok_or}
 use Rattle.tagged_file.specs.declared.record.Tag.{Tag}
 use Rattle.tagged_file.specs.declared.record.Tag.TheVariants as tags
+use Rattle.tagged_file.specs.declared.record.UnknownTag.{UnknownTag}
 use Rattle.tagged_file.specs.declared.record.Record.{Record}
 use Rattle.tagged_file.specs.declared.record.Record.TheVariants as records
 
@@ -33,6 +35,10 @@ tag_or b t another = cond (b == tag_byte t) (Some t) another
 -- the tag that a byte stands for, if it stands for one
 abbrev pub tag_of : ℕ → Option Tag
 tag_of b = tag_or b tags.Year (tag_or b tags.Plant (tag_or b tags.Contract (tag_or b tags.Quarter (tag_or b tags.Remark (tag_or b tags.End None)))))
+
+-- the tag that a byte stands for, and otherwise the byte itself
+abbrev pub tag_or_byte : ℕ → Result Tag UnknownTag
+tag_or_byte b = ok_or (tag_of b) (record { 0 = b })
 
 -- whether so many bytes of content are right for a tag
 abbrev pub right : Tag → ℕ → Bool

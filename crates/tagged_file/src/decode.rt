@@ -14,10 +14,10 @@ pub fn decode<'a>(bytes: &'a [u8], offset: u64) -> Result<(Record<'a>, usize), F
     if bytes.len() < HEADER {
         return Err(Cause::HeaderCutOff.at(offset));
     }
-    let Some(tag) = Tag::from_byte(bytes[0]) else {
+    let Ok(tag) = Tag::try_from(bytes[0]) else {
         return Err(Cause::TagUnknown.at(offset));
     };
-    let length = number16(bytes, 1) as usize;
+    let length = usize::from(number16(bytes, 1));
     if !tag.takes(length) {
         return Err(Cause::LengthWrong.at(offset));
     }

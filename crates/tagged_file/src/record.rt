@@ -1,6 +1,9 @@
 // A record of the file: its tag, and the content that it has in the input.
 ghost use Rattle.std.specs.Prelude.{◌≡◌};
-ghost use Rattle.tagged_file.specs.Format.{tag_of, right, tag_in, content_in, kept};
+ghost use Rattle.tagged_file.specs.Format.{tag_or_byte, right, tag_in, content_in, kept};
+
+use std::error::Error;
+use std::fmt;
 
 // The bytes of a record before its content: its tag, and the two of its length.
 pub const HEADER: usize = 3;
@@ -19,6 +22,18 @@ pub enum Tag {
     End,
 }
 
+// A first byte that stands for no tag.
+#[derive(Clone, Copy, PartialEq, Debug)]
+pub struct UnknownTag(pub u8);
+
+impl fmt::Display for UnknownTag {
+    fn fmt<W: fmt::Write>(&self, f: &mut fmt::Formatter<W>) -> fmt::Result {
+        write!(f, "no record begins with the byte {}", self.0)
+    }
+}
+
+impl Error for UnknownTag {}
+
 // The content is borrowed from the bytes that were decoded.
 #[derive(Clone, Copy, Debug)]
 pub enum Record<'a> {
@@ -30,21 +45,25 @@ pub enum Record<'a> {
     End,
 }
 
-impl Tag {
-    pub fn from_byte(byte: u8) -> Option<Tag>
-        ensures { result ≡ tag_of byte }
-    {
+impl TryFrom<u8> for Tag {
+    type Error = UnknownTag;
+
+    ghost try_from_gives = { λ byte r. r ≡ tag_or_byte byte };
+
+    fn try_from(byte: u8) -> Result<Tag, UnknownTag> {
         match byte {
-            1 => Some(Tag::Year),
-            2 => Some(Tag::Plant),
-            3 => Some(Tag::Contract),
-            4 => Some(Tag::Quarter),
-            5 => Some(Tag::Remark),
-            6 => Some(Tag::End),
-            _ => None,
+            1 => Ok(Tag::Year),
+            2 => Ok(Tag::Plant),
+            3 => Ok(Tag::Contract),
+            4 => Ok(Tag::Quarter),
+            5 => Ok(Tag::Remark),
+            6 => Ok(Tag::End),
+            _ => Err(UnknownTag(byte)),
         }
     }
+}
 
+impl Tag {
     // Whether so many bytes of content are right for this tag.
     pub fn takes(self, length: usize) -> bool
         ensures { result ≡ right self length }

@@ -7,20 +7,23 @@ mod standard_input;
 use crate::standard_input::StandardInput;
 use calendar::published_table::PublishedTable;
 use settlement::whole_file;
-use std::fs;
 use std::process::ExitCode;
+use std::{fs, io};
 
 const TABLE: &str = "calendar.bin";
+
+// What cannot be read is a message, and nothing on standard output.
+fn unreadable(rt: &impl Eprint, what: &str, error: io::Error) -> anyhow::Result<ExitCode> {
+    eprintln!(rt; "settle: {what}: {error}")?;
+    Ok(ExitCode::FAILURE)
+}
 
 pub fn settle(rt: HostRuntime) -> anyhow::Result<ExitCode> {
     let table = match fs::read(&rt, TABLE) {
         Ok(table) => table,
-        Err(error) => {
-            eprintln!(rt; "settle: {TABLE}: {error}")?;
-            return Ok(ExitCode::FAILURE);
-        }
+        Err(error) => return unreadable(&rt, TABLE, error),
     };
-    let mut input = StandardInput { stdin: rt.stdin() };
+    let mut input = StandardInput(rt.stdin());
     match whole_file::settle(PublishedTable::new(&table), &mut input) {
         Ok(Ok(statement)) => {
             print!(rt; "{statement}")?;
@@ -30,9 +33,6 @@ pub fn settle(rt: HostRuntime) -> anyhow::Result<ExitCode> {
             println!(rt; "{fault}")?;
             Ok(ExitCode::FAILURE)
         }
-        Err(error) => {
-            eprintln!(rt; "settle: standard input: {error}")?;
-            Ok(ExitCode::FAILURE)
-        }
+        Err(error) => unreadable(&rt, "standard input", error),
     }
 }

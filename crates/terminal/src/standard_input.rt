@@ -4,9 +4,7 @@ use std::io;
 use std::io::{Read, Stdin};
 
 #[derive(Drop)]
-pub(crate) struct StandardInput {
-    pub(crate) stdin: Stdin,
-}
+pub(crate) struct StandardInput(pub(crate) Stdin);
 
 impl Input for StandardInput {
     // Reading promises how many bytes came and nothing of what they are, so no file is known to come.
@@ -15,6 +13,6 @@ impl Input for StandardInput {
     type Error = io::Error;
 
     fn read_on(&mut self, piece: &mut [u8]) -> io::Result<usize> {
-        self.stdin.read(piece)
+        self.0.read(piece)
     }
 }

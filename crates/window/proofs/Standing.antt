@@ -1,16 +1,22 @@
--- A window lies and stands in a file from call to call, and answers for the whole of it. Assumes nothing.
-use Rattle.std.proofs.Common.{◌≡◌, ℕ, ◌+◌, min, true, leb, List, [], ◌++◌, length, take, drop, sym, ap, ◌∙◌, ⊎_elim, append_assoc, append-nil, arith, length-append}
-use Rattle.std.proofs.lemmas.List.{drop-append-le, drop-drop, nil_from_length}
+-- How much a window holds at most; that it lies and stands in a file from call to call, and answers for the whole of it. Assumes nothing.
+use Rattle.std.proofs.Common.{◌≡◌, ℕ, ◌+◌, min, true, leb, List, [], ◌++◌, length, take, drop, sym, ap, ◌∙◌, ⊎_elim, append_assoc, append-nil, arith, length-append, length-drop, ◌≤◌}
+use Rattle.std.proofs.lemmas.List.{drop_all, drop-append-le, drop-drop, nil_from_length}
 use Rattle.std.proofs.lemmas.Bool.{leb-true, or_cases}
 use Rattle.window.specs.declared.Window.{Window}
 use Rattle.tagged_file.specs.Decoded.{Decoded, decoded}
 use Rattle.tagged_file.specs.Format.{longest_bytes}
 use Rattle.window.specs.Held.{pending, ready, Fed, Passed}
-use Rattle.window.specs.Limits.{most_offset}
+use Rattle.window.specs.Limits.{window_bytes, most_offset}
 use Rattle.window.specs.Lying.{LiesIn, LiesOn, LiesPast, AnswersForAnyFile}
 use Rattle.window.specs.Standing.{Stands, StandsOn, AnswersForFile}
 use Rattle.tagged_file.proofs.Asked.{decoded_long}
-use Rattle.window.proofs.Parts.{drop_min}
+
+pub pending_most : (w : Window) → length (pending w) ≤ window_bytes
+pending_most w = omega (arith, length-drop w.start w.bytes.items, w.within)
+
+-- more than there is cannot be dropped
+drop_min : (n m : ℕ) (xs : List ℕ) → length xs ≤ m → drop (min n m) xs ≡ drop n xs
+drop_min n m xs h = grind (arith, drop_all)
 
 -- once a piece came in
 pub lies_fed : (piece : List ℕ) (n : ℕ) (w v : Window) → Fed w piece n v → LiesOn w (take n piece) v

@@ -6,7 +6,7 @@ use Rattle.window.specs.Limits.{window_bytes, most_offset}
 
 -- the bytes that came in and were not yet passed
 abbrev pub pending : Window → List ℕ
-pending w = take (w.end - w.start) (drop w.start w.bytes)
+pending w = drop w.start w.bytes.items
 
 -- how many bytes a window can still take in
 abbrev pub room_in : Window → ℕ

@@ -22,7 +22,7 @@ impl Window {
     pub fn held(&self) -> &[u8]
         ensures { result.now ≡ pending self.now }
     {
-        &self.bytes[self.start..self.end]
+        &self.bytes.as_slice()[self.start..]
     }
 
     // How many bytes can still come in.

@@ -2,8 +2,10 @@
 #![tactic(auto)]
 
 ghost use Rattle.std.specs.Prelude.{◌≤◌};
+ghost use Rattle.arrayvec.specs.ArrayVec.{array_vec_len};
 ghost use Rattle.window.specs.Limits.{window_bytes};
 
+use arrayvec::ArrayVec;
 use tagged_file::record::{HEADER, LONGEST_REMARK};
 
 pub mod holding;
@@ -18,14 +20,13 @@ pub const PIECE: usize = 32_768;
 // The bytes of the longest record, 1,027: a window that holds as many needs no more to decode one.
 pub const LONGEST: usize = HEADER + LONGEST_REMARK;
 
-// bytes[start..end] is held, and begins at `offset` in the file; `finished` once the input has no more.
+// bytes[start..] is held, and begins at `offset` in the file; `finished` once the input has no more.
 #[derive(Drop)]
 pub struct Window {
-    bytes: [u8; CAPACITY],
+    bytes: ArrayVec<u8, CAPACITY>,
     start: usize,
-    end: usize,
     offset: u64,
     finished: bool,
-    ghost ordered: { start ≤ end },
-    ghost within: { end ≤ window_bytes },
+    ghost ordered: { start ≤ array_vec_len bytes },
+    ghost within: { array_vec_len bytes ≤ window_bytes },
 }

@@ -4,7 +4,8 @@ ghost use Rattle.window.specs.Held.{Fresh, Fed, Finished, Passed, Settled};
 ghost use Rattle.window.specs.Lying.{LiesAtStart, LiesOn, LiesPast, LiesAtEnd};
 ghost use Rattle.window.specs.Standing.{StandsAtStart, StandsOn, StandsAtEnd};
 
-use crate::{CAPACITY, Window};
+use crate::Window;
+use arrayvec::ArrayVec;
 
 impl Window {
     pub fn new() -> Window
@@ -13,9 +14,8 @@ impl Window {
         ensures lies { LiesAtStart result }
     {
         Window {
-            bytes: [0; CAPACITY],
+            bytes: ArrayVec::new(),
             start: 0,
-            end: 0,
             offset: 0,
             finished: false,
         }
@@ -29,9 +29,7 @@ impl Window {
     {
         let count = self.room().min(piece.len());
         self.settle();
-        let (start, end) = (self.end, self.end + count);
-        self.bytes[start..end].copy_from_slice(&piece[0..count]);
-        self.end = end;
+        self.bytes.try_extend_from_slice(&piece[..count]).unwrap();
         count
     }
 
@@ -39,10 +37,10 @@ impl Window {
     fn settle(&mut self)
         ensures { Settled self.old self.new }
     {
-        let (start, end) = (self.start, self.end);
-        self.bytes.copy_within(start..end, 0);
+        let held = self.held().len();
+        self.bytes.as_mut_slice().copy_within(self.start.., 0);
+        self.bytes.truncate(held);
         self.start = 0;
-        self.end = end - start;
     }
 
     // The input has no more.

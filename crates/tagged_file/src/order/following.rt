@@ -21,7 +21,7 @@ impl Order {
     pub fn is_over(&self) -> bool
         ensures { result ≡ has_end self.now.stage }
     {
-        matches!(self.stage, Stage::Over)
+        self.stage == Stage::Over
     }
 
     // The stage after a record of this tag, where it may stand here.
@@ -47,7 +47,7 @@ impl Order {
         let Some(stage) = self.follow(tag) else {
             return Err(Cause::OutOfOrder.at(offset));
         };
-        if let Tag::Remark = tag {
+        if tag == Tag::Remark {
             self.remarks += 1;
         }
         self.stage = stage;

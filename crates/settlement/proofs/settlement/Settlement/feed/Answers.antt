@@ -1,10 +1,10 @@
-use Rattle.std.proofs.Common.{◌≡◌, ℕ, ◌≤◌, ◌++◌, length, take, drop, sym, refl, ap, ◌∙◌, subst, append_assoc, arith, length-append, length-drop, take-append-drop}
-use Rattle.std.proofs.lemmas.List.{length-take-le}
+use Rattle.std.proofs.Common.{◌≡◌, ◌≤◌, ◌++◌, length, take, drop, sym, refl, ap, ◌∙◌, subst, append_assoc, arith, length-append, length-drop, take-append-drop}
+use Rattle.std.proofs.lemmas.List.{length-take-le, nil_from_length}
 use Rattle.std.proofs.lemmas.Bool.{eqb-true}
 use Rattle.window.specs.Held.{pending}
 use Rattle.settlement.specs.declared.settlement.Settlement.{Settlement}
 use Rattle.settlement.specs.Settling.{StandsIn, TakesAnyPiece}
-use Rattle.settlement.proofs.Keeping.{decided, bounded_still, came_in_file, no_bytes, rest_of}
+use Rattle.settlement.proofs.Keeping.{decided, bounded_still, came_in_file, rest_of}
 use Rattle.settlement.proofs.Turning.{takes_told}
 use Rattle.settlement.proofs.settlement.Settlement.feed.Goals as goal
 
@@ -14,7 +14,7 @@ loop-rest-preserved c =
     let s = c.advance.new.self in
     let n = c.feed-taken.result in
     let fed = c.feed-taken.ensures.fed in
-    let t : Settlement = record { table = s.table; window = c.feed-taken.new.self; order = s.order; chosen = s.chosen; outcome = s.outcome } in
+    let t : Settlement = record { table = s.table; window = c.feed-taken.new.self; order = s.order; account = s.account; outcome = s.outcome } in
     let within : n ≤ length rest = omega (arith, fed.count) in (
       λ bounded unsettled.
           let before = c.loop-rest.invariant.0 bounded (sym c.loop-rest-test.ensures) in
@@ -36,7 +36,7 @@ returns-else-not-is_empty c =
     let none : length rest ≡ 0 = eqb-true (length rest) 0 (sym c.if-not-is_empty.ensures) in
     let any : TakesAnyPiece c.args.self.now c.args.piece.now t = record {
       grows = λ bounded unsettled. let here = c.loop-rest.invariant.0 bounded unsettled in (here.0, omega (arith, here.1, none));
-      in_file = λ known table file more here. subst (λ l. StandsIn known table file (l ++ more) t) (no_bytes rest none) (c.loop-rest.invariant.1 known table file more here);
+      in_file = λ known table file more here. subst (λ l. StandsIn known table file (l ++ more) t) (nil_from_length rest none) (c.loop-rest.invariant.1 known table file more here);
     } in
     record { any = any; told = takes_told _ _ _ any }
 
@@ -44,7 +44,7 @@ pub returns-after-loop-rest : goal.returns-after-loop-rest
 returns-after-loop-rest c =
     let t = c.loop-rest.self in
     let any : TakesAnyPiece c.args.self.now c.args.piece.now t = record {
-      grows = λ bounded unsettled. absurd (let h = c.loop-rest-test.ensures in let z : ◌≡◌ {A = ℕ} 0 1 = cc in omega arith);
+      grows = λ bounded unsettled. cc;
       in_file = λ known table file more here. decided known table file _ more t (sym c.loop-rest-test.ensures) (c.loop-rest.invariant.1 known table file more here);
     } in
     record { any = any; told = takes_told _ _ _ any }
