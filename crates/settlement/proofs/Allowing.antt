@@ -1,5 +1,6 @@
 -- A record that the order and the account take occupies no more than its kind may. Assumes nothing.
-use Rattle.std.proofs.Common.{◌≡◌, ℕ, ◌+◌, ◌*◌, ◌≤◌, Bool, true, false, not, List, [], ◌∷◌, length, Some, None, Ok, Err, Option, sym, refl, ap, ◌∙◌, subst, arith, MatchResult}
+use Rattle.std.proofs.Common.{◌≡◌, ℕ, ◌+◌, ◌-◌, ◌*◌, ◌≤◌, Bool, true, false, not, List, [], ◌∷◌, length, get_or, Some, None, Ok, Err, Option, sym, refl, ap, ◌∙◌, subst, arith, length-append, MatchResult}
+use Rattle.std.proofs.lemmas.List.{length-set}
 use Rattle.std.proofs.lemmas.Bool.{eqb-true, leb-true}
 use Rattle.fault.specs.declared.cause.Cause.TheVariants.{OutOfOrder}
 use Rattle.fault.specs.Questions.{Answer, asked}
@@ -17,6 +18,11 @@ use Rattle.file_account.specs.declared.account_of_file.AccountOfFile.TheVariants
 use Rattle.file_account.specs.declared.chosen.Chosen.{Chosen}
 use Rattle.file_account.specs.declared.chosen.Chosen.TheVariants as chosen
 use Rattle.file_account.specs.Choosing.{BeforeYear, BeginsNamed, PutsOn, ChosenPuts}
+use Rattle.account.specs.declared.contract.Contract.{Contract}
+use Rattle.account.specs.Ledgers.{drawing, drawing_last}
+use Rattle.account.specs.SupplyContracts.{no_contract}
+use Rattle.site.specs.declared.draft.Draft.{Draft}
+use Rattle.site.specs.Plants.{spelled}
 use Rattle.settlement.specs.Longest.{account_bytes, chosen_bytes, longest_open, Bounded}
 use Rattle.file_account.specs.Putting.{AddsIn, OpensIn, BeginsOpened, BeginsIn, EntersIn, Puts}
 
@@ -33,10 +39,14 @@ chosen_most (Some (chosen.Delimitation s)) = omega (arith, account_most s)
 pub bounded_most : (o : Order) (s : Option Chosen) (p : ℕ) → Bounded o s p → p ≤ longest_open
 bounded_most o s p b = omega (arith, b.bytes, chosen_most s, o.few)
 
+-- what is drawn begins no contract
+drawn_as_many : (cs : List Contract) (draw : ℕ) → length (drawing_last cs draw) ≡ length cs
+drawn_as_many cs draw = length-set cs (length cs - 1) (drawing (get_or cs (length cs - 1) no_contract) draw)
+
 module _ {O : Type 0} (meaning : Meaning O) where
   -- one plant more
   added_bytes : (s t : AccountOfFile O) (e : _) → AddsIn meaning s e (Ok tt) t → account_bytes t ≡ account_bytes s + 10
-  added_bytes (states.Draft d) (states.Draft x) e adds = omega (arith, adds.1.register.count)
+  added_bytes (states.Draft d) (states.Draft x) e adds = omega (arith, ap length adds.1.register.plants, length-append d.register.plants.items (spelled e ∷ []))
   added_bytes (states.Draft d) (states.Opened b) e adds = absurd adds
   added_bytes (states.Opened a) t e adds = cc
 
@@ -44,12 +54,12 @@ module _ {O : Type 0} (meaning : Meaning O) where
   opened_bytes : (s t : AccountOfFile O) → OpensIn meaning s (Ok tt) t → account_bytes t ≡ account_bytes s
   opened_bytes (states.Draft d) (states.Draft e) opens = absurd (opens.1 refl)
   opened_bytes (states.Draft d) (states.Opened a) opens =
-      omega (arith, ap (λ x. x.register.count) opens.2.draft, opens.2.ledger.begun, opens.2.ledger.entered)
+      omega (arith, ap (λ (x : Draft). length x.register.plants.items) opens.2.draft, ap length opens.2.ledger.contracts, opens.2.ledger.entered)
   opened_bytes (states.Opened a) t opens = sym (ap account_bytes opens.1)
 
   begun_bytes : (s t : AccountOfFile O) (n : ℕ) → BeginsOpened meaning s n (Ok tt) t → account_bytes t ≡ account_bytes s + 7
   begun_bytes (states.Opened a) (states.Opened b) n begins =
-      omega (arith, ap (λ x. x.register.count) begins.1.draft, begins.1.ledger.begun, begins.1.ledger.entered)
+      omega (arith, ap (λ (x : Draft). length x.register.plants.items) begins.1.draft, ap length begins.1.ledger.contracts, length-append a.ledger.contracts.items (record { number = n; draw = 0 } ∷ []), begins.1.ledger.entered)
   begun_bytes (states.Opened a) (states.Draft e) n begins = absurd begins
   begun_bytes (states.Draft d) t n begins = cc
 
@@ -64,7 +74,7 @@ module _ {O : Type 0} (meaning : Meaning O) where
   -- one quarter more
   entered_bytes : {C : Type 0} (calendar : Calendar C) (c : C) (s t : AccountOfFile O) (q : ℕ) (a : _) → EntersIn meaning calendar c s q a (Ok tt) t → account_bytes t ≡ account_bytes s + 21
   entered_bytes calendar c (states.Opened a) (states.Opened b) q x enters =
-      omega (arith, ap (λ y. y.register.count) enters.1.draft, enters.1.ledger.begun, enters.1.ledger.entered)
+      omega (arith, ap (λ (y : Draft). length y.register.plants.items) enters.1.draft, ap length enters.1.ledger.contracts, drawn_as_many a.ledger.contracts.items x.draw, enters.1.ledger.entered)
   entered_bytes calendar c (states.Opened a) (states.Draft e) q x enters = absurd enters
   entered_bytes calendar c (states.Draft d) t q x enters = cc
 

@@ -14,8 +14,8 @@ use Rattle.settlement.specs.Progress.{open_still}
 
 -- a plant record has 10 bytes, a contract record 7, a quarter record 21
 abbrev pub account_bytes : {O : Type 0} → AccountOfFile O → ℕ
-account_bytes (states.Draft d) = 10 * d.register.count
-account_bytes (states.Opened a) = 10 * a.draft.register.count + 7 * a.ledger.begun + 21 * a.ledger.entered
+account_bytes (states.Draft d) = 10 * length d.register.plants.items
+account_bytes (states.Opened a) = 10 * length a.draft.register.plants.items + 7 * length a.ledger.contracts.items + 21 * a.ledger.entered
 
 -- a year record has 6
 abbrev pub chosen_bytes : Option Chosen → ℕ

@@ -47,8 +47,7 @@ returns c =
     ∙ ap (λ b. get_or c.enter_quarter.new.self.option.marked 0 0 + cond b 800 0) mark_2
     ∙ omega (arith, first.option.marked 0 (omega arith) ∙ ap (λ b. get_or c.begin_contract.new.self.option.marked 0 0 + cond b 600 0) mark, ap (λ (x : FlatOption). get_or x.marked 0 0) begun.option, opened.option.marked 0 (omega arith)) in
     let filled = c.in_ok-interim_statement.ensures.fills.1 in
-    let led = enters (enters (begins (opens drafted.2 opened) c.in_ok-begin_contract.ensures) c.in_ok-enter_quarter.ensures) c.in_ok-enter_quarter-2.ensures in
-    (
+    let led = enters (enters (begins (opens drafted.2 opened) c.in_ok-begin_contract.ensures) c.in_ok-enter_quarter.ensures) c.in_ok-enter_quarter-2.ensures in (
       ap (λ (s : Statement). s.totals) filled ∙ totals_are o power fed drew,
       ap (λ (s : Statement). get_or s.plants.items 0 no_plant_line) filled
           ∙ get_or-map-range_with_len (plant_row flat o year.draft.register) 0 (length year.draft.register.plants.items) 0 0 no_plant_line (omega (arith, ap (λ (g : Register). length g.plants.items) register, ap length drafted.1)) refl
