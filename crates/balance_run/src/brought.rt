@@ -1,10 +1,12 @@
 // What the accepted calls of an account brought, counted apart from the account.
+use arrayvec::ArrayVec;
 use calendar::value_calendar::ValueCalendar;
 use options::amounts::Amounts;
-use std::alloc::{AllocError, Global};
+use options::settlement_option::PLACES;
+use statement::MOST_CONTRACTS;
 
 // A plant that was added, with what was fed in while the calendar had its regime above zero.
-#[derive(Clone, Copy)]
+#[derive(Clone, Copy, Default)]
 pub struct MarkedPlant {
     regime: u8,
     pub feed_in: u32,
@@ -14,29 +16,31 @@ pub struct MarkedPlant {
 pub struct Brought {
     pub feed_in: u32,
     pub draw: u32,
-    pub plants: Vec<MarkedPlant>,
+    pub plants: ArrayVec<MarkedPlant, PLACES>,
     // What was drawn while each contract ran.
-    pub contracts: Vec<u32>,
+    pub contracts: ArrayVec<u32, MOST_CONTRACTS>,
 }
 
 impl Brought {
-    pub fn nothing(heap: Global) -> Brought {
+    pub fn nothing() -> Brought {
         Brought {
             feed_in: 0,
             draw: 0,
-            plants: Vec::new(heap),
-            contracts: Vec::new(heap),
+            plants: ArrayVec::new(),
+            contracts: ArrayVec::new(),
         }
     }
 
-    pub fn add_plant(&mut self, regime: u8) -> Result<(), AllocError> {
-        self.plants.push(MarkedPlant { regime, feed_in: 0 })?;
-        Ok(())
+    pub fn add_plant(&mut self, regime: u8) {
+        if !self.plants.is_full() {
+            self.plants.push(MarkedPlant { regime, feed_in: 0 });
+        }
     }
 
-    pub fn begin_contract(&mut self) -> Result<(), AllocError> {
-        self.contracts.push(0)?;
-        Ok(())
+    pub fn begin_contract(&mut self) {
+        if !self.contracts.is_full() {
+            self.contracts.push(0);
+        }
     }
 
     pub fn enter_quarter<C: ValueCalendar>(

@@ -97,7 +97,7 @@ impl<'a, O: SettlementOption + Drop> Run<'a, O> {
         table: PublishedTable<'a>,
         plants: &[PlantEntry],
     ) -> io::Result<Run<'a, O>> {
-        let mut brought = Brought::nothing(rt.alloc());
+        let mut brought = Brought::nothing();
         let draft = drafted(rt, plants, &mut brought)?;
         let fitness = draft.check_fitness::<O>();
         answer(rt, "fitness under option", O::number() as u32, fitness)?;
@@ -113,7 +113,7 @@ impl<'a, O: SettlementOption + Drop> Run<'a, O> {
     fn begin(&mut self, number: u32) -> io::Result<()> {
         let result = self.year.begin_contract(number);
         if result.is_ok() {
-            self.brought.begin_contract()?;
+            self.brought.begin_contract();
         }
         answer(self.rt, "contract", number, result)
     }
@@ -207,7 +207,7 @@ fn drafted(rt: &HostRuntime, plants: &[PlantEntry], brought: &mut Brought) -> io
     for entry in plants {
         let result = draft.add_plant(*entry);
         if result.is_ok() {
-            brought.add_plant(entry.regime)?;
+            brought.add_plant(entry.regime);
         }
         answer(rt, "plant", entry.power, result)?;
     }

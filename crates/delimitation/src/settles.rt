@@ -107,6 +107,7 @@ impl SettlementOption for DelimitationOption {
         &self.taken
     }
 
+    // One test of the place for both arrays, here and in `pair`.
     fn marked(&self, place: usize) -> u32 {
         if place < PLACES {
             self.marked_direct[place] + self.marked_store[place]

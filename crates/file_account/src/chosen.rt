@@ -12,7 +12,7 @@ use statement::Statement;
 use tagged_file::number::{byte, number16};
 use tagged_file::record::Record;
 
-// The bytes that name the options in a year record.
+// The bytes that name the options in a year record. Constants and no enum: what a byte names is a case of `Chosen` at once.
 const FLAT: u8 = 0;
 
 const DELIMITATION: u8 = 1;
@@ -62,6 +62,7 @@ impl Chosen {
         let Some(chosen) = account.take() else {
             return before_the_year(record);
         };
+        // Two arms alike, here and in `settle`: what could be one is a boxed account, and no heap is used here.
         match chosen {
             Chosen::Flat(mut flat) => {
                 let answer = flat.put(calendar, record);

@@ -1,4 +1,4 @@
-// Negative prices that stand together at either end of some prices.
+// Negative prices that stand together at either end of some prices. Two chains, since one over any iterator would have to promise what that yields.
 ghost use Rattle.std.specs.Prelude.{◌≡◌, pos, int_lt};
 ghost use Rattle.std.specs.List.{prefix_len, suffix_len};
 

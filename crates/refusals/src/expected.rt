@@ -2,7 +2,7 @@
 use fault::Fault;
 use std::test::Fail;
 
-// Whether the answer is a refusal by this layer and this question, at this place.
+// Whether the answer is a refusal by this layer and this question, at this place: the rules' numbers and no `Cause`, which would compare the code with itself.
 pub fn refused(answer: Result<(), Fault>, layer: u8, number: u8, place: u64) -> Result<(), Fail> {
     let Err(fault) = answer else {
         return Err(Fail::new("accepted"));

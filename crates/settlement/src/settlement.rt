@@ -29,6 +29,7 @@ fn placed(answer: Result<(), Fault>, offset: u64) -> Result<(), Fault>
     answer.map_err(|fault| fault.cause.at(offset))
 }
 
+// Where a settlement stands in a file is said twice of each call and kept in no type: it is a fact about the file that the caller knows.
 impl<'t> Settlement<'t> {
     pub fn new(table: PublishedTable<'t>) -> Settlement<'t>
         ensures any { StartsInAny table.entry result }

@@ -17,6 +17,7 @@ pub const MOST_CONTRACTS: usize = 4;
 #[derive(Clone, PartialEq, Debug, Drop)]
 pub struct Statement {
     pub year: u16,
+    // The option's number, as its trait has it.
     pub option: u8,
     pub quarters: u32,
     pub standing: Standing,

@@ -23,6 +23,7 @@ fn byte_at<C: ValueCalendar>(calendar: &C, place: usize) -> u8
     let regime = (place / ROW_BYTES) as u8;
     let first = (place % ROW_BYTES) as u32 * 8;
     let mut byte = 0;
+    // Over the numbers of the bits, which is what each iteration needs.
     for bit in 0..8 {
         if is_marked(calendar, regime, first + bit) {
             byte |= 1 << bit;

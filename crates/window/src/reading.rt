@@ -7,6 +7,7 @@ ghost use Rattle.window.specs.Standing.{StandsAtStart, StandsOn, StandsAtEnd};
 use crate::Window;
 use arrayvec::ArrayVec;
 
+// Where a window stands in a file is said twice of each call and kept in no type: it is a fact about the file that the caller knows.
 impl Window {
     pub fn new() -> Window
         ensures fresh { Fresh result }
