@@ -20,10 +20,10 @@ fn contract_lines(ledger: &Ledger, netted: u32) -> ArrayVec<ContractLine, MOST_C
     let contracts = ledger.contracts();
     let shares = divide(netted, contracts);
     let mut lines = ArrayVec::new();
-    for (place, contract) in contracts.iter().enumerate() {
+    for (contract, share) in contracts.iter().zip(&shares) {
         lines.push(ContractLine {
             number: contract.number,
-            draw: draw_figures(contract.draw, shares[place]),
+            draw: draw_figures(contract.draw, *share),
         });
     }
     lines
@@ -47,6 +47,7 @@ fn settle<O: SettlementOption>(opened: &Opened<O>, year: u16, standing: Standing
 }
 
 // Two calls and not a generic one: they ask different questions, and share all of the statement's making.
+// The statement is the caller's and no result, so that a refusal leaves it as it was.
 impl<O: SettlementOption> Opened<O> {
     // An interim statement.
     pub fn statement(&self, statement: &mut Statement) -> Result<(), Fault>

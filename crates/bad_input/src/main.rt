@@ -8,7 +8,7 @@ use std::{fs, io};
 // A remark of no content.
 const REMARK: [u8; 3] = [5, 0, 0];
 
-// Settles files by one table, and prints what they come to.
+// Settles files by one table, and prints what they come to. Each program has its own: a crate for two fields would be no plainer.
 #[derive(Clone, Copy)]
 struct Trial<'r, 't> {
     rt: &'r HostRuntime,
@@ -28,7 +28,7 @@ impl Trial<'_, '_> {
         }
     }
 
-    // Cut at each place, with the bytes before each place left out, and with the byte at each place changed.
+    // Cut at each place, with the bytes before each place left out, and with the byte at each place changed. A damage is told by its place.
     fn damage(&self, file: &[u8]) -> anyhow::Result<()> {
         for at in 0..file.len() {
             let (before, rest) = file.split_at(at);

@@ -1,21 +1,20 @@
 // Lines and texts of prices, right and wrong, and what each comes to.
 #![tactic(auto)]
 
+use price_line::flaw::Flaw;
 use price_line::price::price;
 use price_line::run_lengths::run_lengths;
 use price_text::text::read_text;
-use std::io;
+use std::{fmt, io};
 
-fn try_price(rt: &HostRuntime, line: &str) -> io::Result<()> {
-    match price(line.as_bytes()) {
-        Ok(price) => println!(rt; "<{line}>: {price}"),
-        Err(flaw) => println!(rt; "<{line}>: {flaw}"),
-    }
-}
-
-fn try_run_lengths(rt: &HostRuntime, line: &str) -> io::Result<()> {
-    match run_lengths(line.as_bytes()) {
-        Ok(lengths) => println!(rt; "<{line}>: {lengths:?}"),
+// What a line spells, or what is wrong with it.
+fn try_line<T: fmt::Debug + Drop>(
+    rt: &HostRuntime,
+    line: &str,
+    spelled: Result<T, Flaw>,
+) -> io::Result<()> {
+    match spelled {
+        Ok(value) => println!(rt; "<{line}>: {value:?}"),
         Err(flaw) => println!(rt; "<{line}>: {flaw}"),
     }
 }
@@ -66,7 +65,7 @@ fn try_prices(rt: &HostRuntime) -> io::Result<()> {
         "five",
     ];
     for line in lines {
-        try_price(rt, line)?;
+        try_line(rt, line, price(line.as_bytes()))?;
     }
     Ok(())
 }
@@ -91,7 +90,7 @@ fn try_first_lines(rt: &HostRuntime) -> io::Result<()> {
         "runs6 4 3 2 1 0 0 0",
     ];
     for line in lines {
-        try_run_lengths(rt, line)?;
+        try_line(rt, line, run_lengths(line.as_bytes()))?;
     }
     Ok(())
 }

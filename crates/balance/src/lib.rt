@@ -17,7 +17,7 @@ pub fn runs_balance<O: SettlementOption, C: ValueCalendar>()
     ensures { RunsBalance O.SettlementOption C.ValueCalendar }
 {}
 
-// The interim statement of an opened year. It and the final one are two calls, as in the account, since they promise different answers.
+// The interim statement of an opened year. It and the final one are two calls, as in the account, since they promise different answers. The statement is the caller's, and a refusal leaves it as it was.
 pub fn interim_statement<O: SettlementOption, C: ValueCalendar>(
     year: &Opened<O>,
     statement: &mut Statement,

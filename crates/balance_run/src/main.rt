@@ -24,52 +24,60 @@ fn answer(rt: &HostRuntime, call: &str, offered: u32, res: Result<(), Fault>) ->
     }
 }
 
-// Each line: what the accepted calls brought, and what the statement makes of it.
-fn feed_in_beside(rt: &HostRuntime, statement: &Statement, brought: &Brought) -> io::Result<()> {
-    let mut portions = 0u32;
-    for (place, (line, plant)) in statement
-        .plant_lines()
-        .iter()
-        .zip(&brought.plants)
-        .enumerate()
-    {
-        portions = portions.saturating_add(line.portion);
-        let fed = plant.feed_in;
-        let marked = line.marked;
-        println!(rt; "  fed in while plant {place} was marked {fed}: marked {marked}")?;
-    }
-    let fed = brought.feed_in;
-    let nettable = statement.totals.feed_in.nettable;
-    let unassigned = statement.totals.feed_in.unassigned;
-    println!(rt; "  fed in {fed}: portions {portions} nettable {nettable} unassigned {unassigned}")
+// A statement that was asked for, beside what the accepted calls brought.
+#[derive(Drop)]
+struct Beside<'a> {
+    rt: &'a HostRuntime,
+    statement: Statement,
+    brought: &'a Brought,
 }
 
-fn draw_beside(rt: &HostRuntime, statement: &Statement, brought: &Brought) -> io::Result<()> {
-    let mut all_netted = 0u32;
-    for (line, drawn) in statement.contract_lines().iter().zip(&brought.contracts) {
-        let number = line.number;
-        let netted = line.draw.netted;
-        let levied = line.draw.levied;
-        all_netted = all_netted.saturating_add(netted);
-        println!(rt; "  drawn under contract {number} {drawn}: netted {netted} levied {levied}")?;
-    }
-    let drawn = brought.draw;
-    println!(rt; "  drawn {drawn}: netted {all_netted}")
-}
-
-fn given(
-    rt: &HostRuntime,
-    res: Result<(), Fault>,
-    statement: &Statement,
-    brought: &Brought,
-) -> io::Result<()> {
-    match res {
-        Ok(()) => {
-            print!(rt; "{statement}")?;
-            feed_in_beside(rt, statement, brought)?;
-            draw_beside(rt, statement, brought)
+impl Beside<'_> {
+    fn print(&self, res: Result<(), Fault>) -> io::Result<()> {
+        match res {
+            Ok(()) => {
+                let statement = &self.statement;
+                print!(self.rt; "{statement}")?;
+                self.print_feed_in()?;
+                self.print_draw()
+            }
+            Err(fault) => println!(self.rt; "statement: {fault}"),
         }
-        Err(fault) => println!(rt; "statement: {fault}"),
+    }
+
+    // Each line, here and below: what the accepted calls brought, and what the statement makes of it.
+    fn print_feed_in(&self) -> io::Result<()> {
+        let lines = self.statement.plant_lines().iter();
+        let mut portions = 0u32;
+        for (place, (line, plant)) in lines.zip(&self.brought.plants).enumerate() {
+            portions = portions.saturating_add(line.portion);
+            let fed = plant.feed_in;
+            let marked = line.marked;
+            println!(self.rt; "  fed in while plant {place} was marked {fed}: marked {marked}")?;
+        }
+        let fed = self.brought.feed_in;
+        let feed_in = self.statement.totals.feed_in;
+        let nettable = feed_in.nettable;
+        let unassigned = feed_in.unassigned;
+        println!(self.rt;
+            "  fed in {fed}: portions {portions} nettable {nettable} unassigned {unassigned}"
+        )
+    }
+
+    fn print_draw(&self) -> io::Result<()> {
+        let lines = self.statement.contract_lines().iter();
+        let mut all_netted = 0u32;
+        for (line, drawn) in lines.zip(&self.brought.contracts) {
+            let number = line.number;
+            let netted = line.draw.netted;
+            let levied = line.draw.levied;
+            all_netted = all_netted.saturating_add(netted);
+            println!(self.rt;
+                "  drawn under contract {number} {drawn}: netted {netted} levied {levied}"
+            )?;
+        }
+        let drawn = self.brought.draw;
+        println!(self.rt; "  drawn {drawn}: netted {all_netted}")
     }
 }
 
@@ -81,30 +89,32 @@ enum Call {
     Statement,
 }
 
-// An account of one option, what marks its quarters, and what its accepted calls brought.
-#[derive(Drop)]
-struct Run<'a, O> {
+// Where a run prints, and the table that marks its quarters.
+#[derive(Clone, Copy)]
+struct Trial<'a> {
     rt: &'a HostRuntime,
     table: PublishedTable<'a>,
+}
+
+// An account of one option, and what its accepted calls brought.
+#[derive(Drop)]
+struct Run<'a, O> {
+    trial: Trial<'a>,
     year: Opened<O>,
     brought: Brought,
 }
 
 impl<'a, O: SettlementOption + Drop> Run<'a, O> {
     // A year opened from a draft with these plants, as far as they are accepted.
-    fn open(
-        rt: &'a HostRuntime,
-        table: PublishedTable<'a>,
-        plants: &[PlantEntry],
-    ) -> io::Result<Run<'a, O>> {
+    fn open(trial: Trial<'a>, plants: &[PlantEntry]) -> io::Result<Run<'a, O>> {
+        let rt = trial.rt;
         let mut brought = Brought::nothing();
         let draft = drafted(rt, plants, &mut brought)?;
         let fitness = draft.check_fitness::<O>();
         answer(rt, "fitness under option", O::number() as u32, fitness)?;
         println!(rt; "open")?;
         Ok(Run {
-            rt,
-            table,
+            trial,
             year: Opened::open(draft),
             brought,
         })
@@ -115,18 +125,20 @@ impl<'a, O: SettlementOption + Drop> Run<'a, O> {
         if result.is_ok() {
             self.brought.begin_contract();
         }
-        answer(self.rt, "contract", number, result)
+        answer(self.trial.rt, "contract", number, result)
     }
 
     fn take(&mut self, quarter: u32, amounts: Amounts) -> Result<(), Fault> {
-        self.year.enter_quarter(&self.table, quarter, amounts)?;
-        self.brought.enter_quarter(&self.table, quarter, amounts);
+        self.year
+            .enter_quarter(&self.trial.table, quarter, amounts)?;
+        self.brought
+            .enter_quarter(&self.trial.table, quarter, amounts);
         Ok(())
     }
 
     fn enter(&mut self, quarter: u32, amounts: Amounts) -> io::Result<()> {
         let result = self.take(quarter, amounts);
-        answer(self.rt, "quarter", quarter, result)
+        answer(self.trial.rt, "quarter", quarter, result)
     }
 
     // What is left of the year: readings that differ from quarter to quarter.
@@ -143,13 +155,18 @@ impl<'a, O: SettlementOption + Drop> Run<'a, O> {
                 accepted = accepted.saturating_add(1);
             }
         }
-        println!(self.rt; "quarters 4 to 35039: {accepted} accepted")
+        println!(self.trial.rt; "quarters 4 to 35039: {accepted} accepted")
     }
 
     fn statement(&self) -> io::Result<()> {
         let mut statement = Statement::blank();
         let result = interim_statement::<O, PublishedTable<'_>>(&self.year, &mut statement);
-        given(self.rt, result, &statement, &self.brought)
+        let beside = Beside {
+            rt: self.trial.rt,
+            statement,
+            brought: &self.brought,
+        };
+        beside.print(result)
     }
 
     fn call_all(&mut self, calls: &[Call]) -> io::Result<()> {
@@ -165,15 +182,19 @@ impl<'a, O: SettlementOption + Drop> Run<'a, O> {
 
     fn close(self) -> io::Result<()> {
         let Run {
-            rt,
+            trial,
             year,
             brought,
-            ..
         } = self;
-        println!(rt; "close")?;
+        println!(trial.rt; "close")?;
         let mut statement = Statement::blank();
         let result = final_statement::<O, PublishedTable<'_>>(&year.close(), &mut statement);
-        given(rt, result, &statement, &brought)
+        let beside = Beside {
+            rt: trial.rt,
+            statement,
+            brought: &brought,
+        };
+        beside.print(result)
     }
 }
 
@@ -238,10 +259,7 @@ fn first_calls() -> [Call; 18] {
 }
 
 // A whole year, with refused calls all the way.
-fn whole_year<O: SettlementOption + Drop>(
-    rt: &HostRuntime,
-    table: PublishedTable<'_>,
-) -> io::Result<()> {
+fn whole_year<O: SettlementOption + Drop>(trial: Trial<'_>) -> io::Result<()> {
     let plants = [
         plant(0, 0, 0, 0),
         plant(6_000, 0, 0, 1),
@@ -252,10 +270,10 @@ fn whole_year<O: SettlementOption + Drop>(
         plant(195_000, 0, 0, 0),
         plant(12_000, 0, 0, 7),
     ];
-    let mut run: Run<O> = Run::open(rt, table, &plants)?;
+    let mut run: Run<O> = Run::open(trial, &plants)?;
     let mut next_year = Draft::new();
     let late = next_year.add_plant(plant(5_000, 0, 0, 2));
-    answer(rt, "late plant, in the next draft", 5_000, late)?;
+    answer(trial.rt, "late plant, in the next draft", 5_000, late)?;
     run.call_all(&first_calls())?;
     run.enter_rest()?;
     run.call_all(&[quarter(35_040, 1, 1, 0, 0), Call::Statement])?;
@@ -263,20 +281,23 @@ fn whole_year<O: SettlementOption + Drop>(
 }
 
 // A year from an unfit draft, and one that is closed too early.
-fn no_statement(rt: &HostRuntime, table: PublishedTable<'_>) -> io::Result<()> {
-    let mut unfit: Run<FlatOption> = Run::open(rt, table, &[plant(1_000, 0, 1, 0)])?;
+fn no_statement(trial: Trial<'_>) -> io::Result<()> {
+    let mut unfit: Run<FlatOption> = Run::open(trial, &[plant(1_000, 0, 1, 0)])?;
     unfit.call_all(&[Call::Contract(7), quarter(0, 1, 1, 0, 0), Call::Statement])?;
     unfit.close()?;
-    let mut early: Run<FlatOption> = Run::open(rt, table, &[plant(1_000, 0, 0, 0)])?;
+    let mut early: Run<FlatOption> = Run::open(trial, &[plant(1_000, 0, 0, 0)])?;
     early.call_all(&[Call::Contract(7), quarter(0, 20_000, 30_000, 0, 0)])?;
     early.close()
 }
 
 fn main(rt: HostRuntime) -> anyhow::Result<()> {
     let bytes = fs::read(&rt, "calendar.bin")?;
-    let table = PublishedTable::new(&bytes);
-    whole_year::<FlatOption>(&rt, table)?;
-    whole_year::<DelimitationOption>(&rt, table)?;
-    no_statement(&rt, table)?;
+    let trial = Trial {
+        rt: &rt,
+        table: PublishedTable::new(&bytes),
+    };
+    whole_year::<FlatOption>(trial)?;
+    whole_year::<DelimitationOption>(trial)?;
+    no_statement(trial)?;
     Ok(())
 }

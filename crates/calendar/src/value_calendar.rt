@@ -5,7 +5,7 @@ ghost use Rattle.calendar.specs.Calendars.{answered, admitted};
 use fault::Fault;
 use fault::cause::Cause;
 
-// Regimes are numbered from 0 to this.
+// Regimes are numbers and no enum, since the rules number them and calendars count their rows by them: from 0 to this.
 pub const LAST_REGIME: u8 = 7;
 
 pub const REGIMES: usize = LAST_REGIME as usize + 1;

@@ -107,12 +107,10 @@ impl SettlementOption for DelimitationOption {
         &self.taken
     }
 
-    // One test of the place for both arrays, here and in `pair`.
     fn marked(&self, place: usize) -> u32 {
-        if place < PLACES {
-            self.marked_direct[place] + self.marked_store[place]
-        } else {
-            0
+        match (self.marked_direct.get(place), self.marked_store.get(place)) {
+            (Some(direct), Some(store)) => direct + store,
+            _ => 0,
         }
     }
 
@@ -135,10 +133,9 @@ impl SettlementOption for DelimitationOption {
     }
 
     fn pair(&self, place: usize) -> (u32, u32) {
-        if place >= PLACES {
-            return (0, 0);
+        match (self.marked_direct.get(place), self.marked_store.get(place)) {
+            (Some(direct), Some(store)) => (direct + self.green_part(*store), self.base()),
+            _ => (0, 0),
         }
-        let upper = self.marked_direct[place] + self.green_part(self.marked_store[place]);
-        (upper, self.base())
     }
 }

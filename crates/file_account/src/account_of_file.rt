@@ -106,7 +106,7 @@ impl<O: SettlementOption + Drop> AccountOfFile<O> {
         }
     }
 
-    // The final statement of a complete year, otherwise the interim one.
+    // The final statement of a complete year, otherwise the interim one, into the caller's, which a refusal leaves as it was.
     pub(crate) fn settle(self, statement: &mut Statement) -> Result<(), Fault>
         ensures { SettlesIn O.SettlementOption self result statement.old statement.new }
     {

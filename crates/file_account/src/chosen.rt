@@ -47,7 +47,7 @@ impl Chosen {
     }
 
     // Puts a record other than the end to a file's account, of which there is none before the year record.
-    // The account is moved out and back in, since a pattern that lends it out of its variant has no proof.
+    // The account is moved out and back in, since a pattern that lends a part of a variant which holds an enum of structs with invariants has no proof.
     pub fn put<C: ValueCalendar>(
         account: &mut Option<Chosen>,
         calendar: &C,
@@ -77,7 +77,7 @@ impl Chosen {
         }
     }
 
-    // The statement at the end of the file.
+    // The statement at the end of the file, into the caller's, which a refusal leaves as it was.
     pub fn settle(account: Option<Chosen>, statement: &mut Statement) -> Result<(), Fault>
         ensures { ChosenSettles account result statement.old statement.new }
     {

@@ -17,7 +17,7 @@ const PIECE: usize = 32_768;
 // The bytes of the longest record: 1,027.
 const LONGEST: u16 = 1_027;
 
-// Settles files by one table, and prints what they come to.
+// Settles files by one table, and prints what they come to. Each program has its own: a crate for two fields would be no plainer.
 #[derive(Clone, Copy)]
 struct Trial<'r, 't> {
     rt: &'r HostRuntime,

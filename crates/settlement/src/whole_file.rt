@@ -17,6 +17,7 @@ pub fn settle<I: Input>(
     ensures { IfOk result (λ out. SettlesInput I.Input.brings table.entry input.old out input.new) }
 {
     let mut settlement = Settlement::new(table);
+    // A buffer with a count beside it, since the count is all that reading promises.
     let mut piece = [0u8; PIECE];
     while settlement.is_open() {
         let count = input.read_on(&mut piece)?;

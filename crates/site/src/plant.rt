@@ -4,8 +4,7 @@ ghost use Rattle.site.specs.Plants.{power_of, supported, kind_of, marketing_of, 
 
 use calendar::value_calendar::LAST_REGIME;
 use division::Weighted;
-use std::error::Error;
-use std::fmt;
+use thiserror::Error;
 
 #[derive(Clone, Copy, PartialEq, Debug, Default)]
 pub enum Kind {
@@ -43,16 +42,9 @@ pub struct PlantEntry {
 }
 
 // A code that stands for no kind, no marketing or no regime.
-#[derive(Clone, Copy, PartialEq, Debug)]
+#[derive(Clone, Copy, PartialEq, Debug, Error)]
+#[error("nothing has the code {0}")]
 pub struct UnknownCode(pub u8);
-
-impl fmt::Display for UnknownCode {
-    fn fmt<W: fmt::Write>(&self, f: &mut fmt::Formatter<W>) -> fmt::Result {
-        write!(f, "nothing has the code {}", self.0)
-    }
-}
-
-impl Error for UnknownCode {}
 
 // Base is divided over plants by power.
 impl Weighted for Plant {

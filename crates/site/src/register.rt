@@ -44,7 +44,7 @@ impl Register {
         self.plants.as_slice()
     }
 
-    // The eight places, of which the plants take the first.
+    // The plants, in the vector that has room for eight.
     pub fn places(&self) -> &ArrayVec<Plant, PLACES>
         ensures { result.now ≡ self.now.plants }
     {

@@ -2,8 +2,7 @@
 ghost use Rattle.std.specs.Prelude.{◌≡◌};
 ghost use Rattle.tagged_file.specs.Format.{tag_or_byte, right, tag_in, content_in, kept};
 
-use std::error::Error;
-use std::fmt;
+use thiserror::Error;
 
 // The bytes of a record before its content: its tag, and the two of its length.
 pub const HEADER: usize = 3;
@@ -23,18 +22,11 @@ pub enum Tag {
 }
 
 // A first byte that stands for no tag.
-#[derive(Clone, Copy, PartialEq, Debug)]
+#[derive(Clone, Copy, PartialEq, Debug, Error)]
+#[error("no record begins with the byte {0}")]
 pub struct UnknownTag(pub u8);
 
-impl fmt::Display for UnknownTag {
-    fn fmt<W: fmt::Write>(&self, f: &mut fmt::Formatter<W>) -> fmt::Result {
-        write!(f, "no record begins with the byte {}", self.0)
-    }
-}
-
-impl Error for UnknownTag {}
-
-// The content is borrowed from the bytes that were decoded.
+// Apart from its tag, which is known before the content is: the content is borrowed from the bytes that were decoded.
 #[derive(Clone, Copy, Debug)]
 pub enum Record<'a> {
     Year(&'a [u8]),

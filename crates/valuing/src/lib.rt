@@ -68,8 +68,9 @@ pub fn plant_lines<O: SettlementOption>(
 {
     let portions = divide(option.base(), register.places());
     let mut lines = ArrayVec::new();
-    for (place, plant) in register.plants().iter().enumerate() {
-        lines.push(plant_line(option, plant, place, portions[place]));
+    for (plant, portion) in register.plants().iter().zip(&portions) {
+        let place = lines.len();
+        lines.push(plant_line(option, plant, place, *portion));
     }
     lines
 }
