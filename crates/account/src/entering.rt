@@ -11,7 +11,7 @@ use options::settlement_option::{PLACES, SettlementOption};
 use site::register::Register;
 use site::year::quarters_in;
 
-// For each plant in turn, what the calendar says of its regime; by place, since marks are an array of all eight.
+// For each plant in turn, what the calendar says of its regime. By place: of a loop over borrowed marks, zipped with the plants, no proof knows what it wrote.
 fn marks_of<C: ValueCalendar>(
     register: &Register,
     calendar: &C,

@@ -6,7 +6,7 @@ use crate::contract::Contract;
 use arrayvec::ArrayVec;
 use statement::MOST_CONTRACTS;
 
-// The latest contract stands last.
+// The latest contract stands last. That there are few says what the type says, for lemmas that have the fields alone.
 #[derive(Drop)]
 pub struct Ledger {
     contracts: ArrayVec<Contract, MOST_CONTRACTS>,
@@ -59,7 +59,7 @@ impl Ledger {
         self.contracts.push(Contract { number, draw: 0 });
     }
 
-    // The draw goes to the contract begun last.
+    // The draw goes to the contract begun last; by its place, since no proof was found of what a loan of the last one leaves.
     pub(crate) fn book(&mut self, draw: u32)
         requires { (0 < length self.old.contracts.items) × ((self.old.entered < 35136) × (draw ≤ 50000)) }
         ensures { Booked self.old draw self.new }

@@ -89,7 +89,7 @@ enum Call {
     Statement,
 }
 
-// Where a run prints, and the table that marks its quarters.
+// Where a run prints, and the table that marks its quarters. Each program has its own: a crate for two fields would be no plainer.
 #[derive(Clone, Copy)]
 struct Trial<'a> {
     rt: &'a HostRuntime,

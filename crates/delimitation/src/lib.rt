@@ -1,7 +1,7 @@
 // The delimitation option: what it holds.
 #![tactic(auto)]
 
-ghost use Rattle.std.specs.Prelude.{◌≡◌, ℕ, ◌+◌, ◌*◌, ◌≤◌, length, slice_index_or};
+ghost use Rattle.std.specs.Prelude.{ℕ, ◌+◌, ◌*◌, ◌≤◌, slice_index_or};
 
 use options::settlement_option::PLACES;
 use options::taken::Taken;
@@ -19,9 +19,7 @@ pub struct DelimitationOption {
     ghost stored: { store_in ≤ 50000 * taken.quarters },
     ghost charged: { grid_charging ≤ store_in },
     ghost discharged: { store_feed_in ≤ taken.feed_in },
-    ghost direct_places: { length marked_direct ≡ 8 },
     ghost direct_part: { ((p : ℕ) → slice_index_or marked_direct p 0 + store_feed_in ≤ taken.feed_in) },
-    ghost store_places: { length marked_store ≡ 8 },
     ghost store_part: { ((p : ℕ) → slice_index_or marked_store p 0 ≤ store_feed_in) },
 }
 

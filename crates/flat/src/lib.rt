@@ -1,7 +1,7 @@
 // The flat option: what it holds.
 #![tactic(auto)]
 
-ghost use Rattle.std.specs.Prelude.{◌≡◌, ℕ, ◌≤◌, get_or, length};
+ghost use Rattle.std.specs.Prelude.{ℕ, ◌≤◌, get_or};
 
 use options::settlement_option::PLACES;
 use options::taken::Taken;
@@ -10,7 +10,6 @@ use options::taken::Taken;
 pub struct FlatOption {
     taken: Taken,
     marked: [u32; PLACES],
-    ghost places: { length marked ≡ 8 },
     ghost part: { ((p : ℕ) → get_or marked p 0 ≤ taken.feed_in) },
 }
 

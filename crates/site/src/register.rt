@@ -14,6 +14,7 @@ const MOST_POWER: u32 = 200_000;
 
 const MOST_PLUG_IN_POWER: u32 = 2_000;
 
+// How many are held says what the type says, for lemmas that have the fields alone.
 #[derive(Drop)]
 pub struct Register {
     plants: ArrayVec<Plant, PLACES>,
@@ -44,7 +45,7 @@ impl Register {
         self.plants.as_slice()
     }
 
-    // The plants, in the vector that has room for eight.
+    // The same in the vector that has room for eight. Two getters: a division takes the vector's rows, and a slice is what all else reads.
     pub fn places(&self) -> &ArrayVec<Plant, PLACES>
         ensures { result.now ≡ self.now.plants }
     {

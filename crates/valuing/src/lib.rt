@@ -69,6 +69,7 @@ pub fn plant_lines<O: SettlementOption>(
     let portions = divide(option.base(), register.places());
     let mut lines = ArrayVec::new();
     for (plant, portion) in register.plants().iter().zip(&portions) {
+        // The place of the line that is to come.
         let place = lines.len();
         lines.push(plant_line(option, plant, place, *portion));
     }

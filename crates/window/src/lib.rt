@@ -21,6 +21,7 @@ pub const PIECE: usize = 32_768;
 pub const LONGEST: usize = HEADER + LONGEST_REMARK;
 
 // bytes[start..] is held, and begins at `offset` in the file; `finished` once the input has no more.
+// What is within the window's bytes says what the type says, for lemmas that have the fields alone.
 #[derive(Drop)]
 pub struct Window {
     bytes: ArrayVec<u8, CAPACITY>,
