@@ -1,5 +1,5 @@
 -- What follows from the answer to the four questions, and what it does not hang on. Assumes nothing.
-use Rattle.std.proofs.Common.{◌≡◌, ℕ, ◌+◌, ◌<◌, ◌≤◌, Bool, true, false, leb, List, [], ◌∷◌, ◌++◌, length, take, drop, is_some, Some, None, Ok, Err, Option, Result, sym, refl, ap, ◌∙◌, ⊎_elim, arith, length-append, length-drop}
+use Rattle.std.proofs.Common.{◌≡◌, ℕ, ◌+◌, ◌<◌, ◌≤◌, Bool, true, false, leb, List, [], ◌∷◌, ◌++◌, length, take, drop, is_some, Some, None, Ok, Option, Result, sym, refl, ap, ◌∙◌, ⊎_elim, arith, length-append, length-drop}
 use Rattle.std.proofs.lemmas.List.{drop-append-le, get_or_append_left, length-take-le, take-append-le}
 use Rattle.std.proofs.lemmas.Bool.{cases_Bool, cond-false, eqb-true, le-leb, leb-true}
 use Rattle.fault.specs.Questions.{asked}
@@ -8,10 +8,9 @@ use Rattle.fault.specs.declared.cause.Cause.{Cause}
 use Rattle.fault.specs.declared.cause.Cause.TheVariants as causes
 use Rattle.tagged_file.specs.declared.record.Tag.{Tag}
 use Rattle.tagged_file.specs.declared.record.Tag.TheVariants as tags
-use Rattle.tagged_file.specs.declared.record.Record.{Record}
-use Rattle.tagged_file.specs.Format.{header_bytes, most_remark, longest_bytes, tag_of, right, tag_in, content_in}
+use Rattle.tagged_file.specs.Format.{header_bytes, most_remark, longest_bytes, tag_of, right}
 use Rattle.tagged_file.specs.Numbers.{byte_at}
-use Rattle.tagged_file.specs.Decoded.{tag_here, length_here, size_here, content_here, right_for, questions, Decoded, decoded, seen, FitsAs, AnyFits}
+use Rattle.tagged_file.specs.Decoded.{tag_here, length_here, size_here, content_here, right_for, questions, Decoded, decoded, FitsAs}
 
 -- no content is longer than that of a remark
 right_le : (t : Tag) (n : ℕ) → right t n ≡ true → n ≤ most_remark
@@ -54,11 +53,6 @@ decoded_known p bs content n e =
     let none : is_some (tag_here bs) ≡ false = ap (λ x. is_some x.0) on.1 in
     let some : is_some (tag_here bs) ≡ true = on.0.1.0 in
     cc
-
--- and so does one that was read
-pub any_fits : (p : ℕ) (bs : List ℕ) (r : Result (Record × ℕ) Fault) → seen r ≡ decoded p bs → AnyFits bs r
-any_fits p bs (Err f) e = tt
-any_fits p bs (Ok a) e = decoded_fits p bs (tag_in a.0) (content_in a.0) a.1 e
 
 -- the four questions, by what they ask about
 abbrev asked_of : ℕ → Bool → Option Tag → ℕ → Bool → List ℕ → Decoded

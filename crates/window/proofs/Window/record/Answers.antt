@@ -1,11 +1,6 @@
 use Rattle.std.proofs.Common.{rules}
-use Rattle.window.specs.Held.{pending}
-use Rattle.tagged_file.proofs.Asked.{any_fits}
 use Rattle.window.proofs.Standing.{answers_for_any_file, answers_for_file}
 use Rattle.window.proofs.Window.record.Goals as goal
-
-pub returns-clause-fits : goal.returns-clause-fits
-returns-clause-fits c = any_fits c.args.self.now.offset (pending c.args.self.now) _ (search rules)
 
 pub returns-clause-whole : goal.returns-clause-whole
 returns-clause-whole c = answers_for_file c.args.self.now _ (answers_for_any_file c.args.self.now _ (search rules))
