@@ -1,4 +1,4 @@
-use Rattle.std.proofs.Common.{◌≡◌, ◌+◌, true, false, cond, length, get_or, refl, ap, ◌∙◌, arith, rules}
+use Rattle.std.proofs.Common.{◌≡◌, ◌+◌, true, false, cond, length, get_or, refl, ap, ◌∙◌, arith}
 use Rattle.flat.specs.contracts.settles.FlatOptionSettlementOption.TheImpl.{ghosts as flat}
 use Rattle.worked_sums.specs.contracts.calendar_of_run.AboveZeroUntilValueCalendar.TheImpl.{ghosts as calendar}
 use Rattle.flat.specs.declared.FlatOption.{FlatOption}
@@ -12,16 +12,7 @@ use Rattle.std.proofs.lemmas.List.FromFn.{get_or-map-range_with_len}
 use Rattle.balance.specs.Runs.{opens, begins, enters}
 use Rattle.worked_sums.specs.Run.{until_one, run_calls}
 use Rattle.worked_sums.proofs.Settled.{totals_are, plant_is}
-use Rattle.worked_sums.proofs.Accepted.{unrefused}
 use Rattle.worked_sums.proofs.run.settled_run.Goals as goal
-
-pub returns-in_err-enter_quarter : goal.returns-in_err-enter_quarter
-returns-in_err-enter_quarter c =
-    absurd (unrefused flat calendar until_one c.begin_contract.new.self 0 (record { draw = 100; feed_in = 600; store_in = 0; store_out = 0 }) (search rules) (search rules) (search rules) (omega arith) refl (omega arith) (search rules) _ c.in_err-enter_quarter.ensures.0)
-
-pub returns-in_err-enter_quarter-2 : goal.returns-in_err-enter_quarter-2
-returns-in_err-enter_quarter-2 c =
-    absurd (unrefused flat calendar until_one c.enter_quarter.new.self 1 (record { draw = 1350; feed_in = 800; store_in = 0; store_out = 0 }) (search rules) (search rules) (search rules) (omega arith) refl (omega arith) (search rules) _ c.in_err-enter_quarter-2.ensures.0)
 
 pub returns : goal.returns
 returns c =
