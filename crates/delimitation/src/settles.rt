@@ -103,8 +103,20 @@ impl SettlementOption for DelimitationOption {
         Ok(())
     }
 
-    fn taken(&self) -> &Taken {
-        &self.taken
+    fn site_power(&self) -> u32 {
+        self.taken.site_power
+    }
+
+    fn quarters(&self) -> u32 {
+        self.taken.quarters
+    }
+
+    fn draw(&self) -> u32 {
+        self.taken.draw
+    }
+
+    fn feed_in(&self) -> u32 {
+        self.taken.feed_in
     }
 
     fn marked(&self, place: usize) -> u32 {

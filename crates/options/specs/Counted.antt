@@ -21,10 +21,3 @@ pub record OneMore (s : Taken) (a : Amounts) (t : Taken) : Type 0 where
 -- the sums of an option: what it counted up, and the marked sum of each place
 abbrev pub sums_with : Taken → (ℕ → ℕ) → Sums
 sums_with t marked = record { site_power = t.site_power; quarters = t.quarters; draw = t.draw; feed_in = t.feed_in; marked = marked }
-
--- what was counted up is what these sums say
-pub record Counts (t : Taken) (s : Sums) : Type 0 where
-  pub site_power : t.site_power ≡ s.site_power
-  pub quarters : t.quarters ≡ s.quarters
-  pub draw : t.draw ≡ s.draw
-  pub feed_in : t.feed_in ≡ s.feed_in

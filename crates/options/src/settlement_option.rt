@@ -1,11 +1,9 @@
 // A settlement option by what it means: the sums of the quarters it took, and what it makes of them.
 ghost use Rattle.std.specs.Prelude.{◌≡◌, ℕ, ◌+◌, ◌*◌, ◌<◌, ◌≤◌, Bool, List};
 ghost use Rattle.options.specs.declared.amounts.Amounts.{Amounts};
-ghost use Rattle.options.specs.Counted.{Counts};
 ghost use Rattle.options.specs.Quarters.{Sums, Started, Added, Took, at_place};
 
 use crate::amounts::Amounts;
-use crate::taken::Taken;
 use fault::Fault;
 
 // The places that plants can take at a site.
@@ -55,33 +53,17 @@ pub trait SettlementOption: Sized {
     fn take(&mut self, amounts: Amounts, marks: [bool; PLACES]) -> Result<(), Fault>
         ensures { Took (sums self.old) amounts result (takes self.old amounts marks self.new) (self.old ≡ self.new) };
 
-    // Site power, quarters, draw and feed-in.
-    fn taken(&self) -> &Taken
-        ensures { Counts result.now (sums self.now) };
-
     fn site_power(&self) -> u32
-        ensures { result ≡ (sums self.now).site_power }
-    {
-        self.taken().site_power
-    }
+        ensures { result ≡ (sums self.now).site_power };
 
     fn quarters(&self) -> u32
-        ensures { result ≡ (sums self.now).quarters }
-    {
-        self.taken().quarters
-    }
+        ensures { result ≡ (sums self.now).quarters };
 
     fn draw(&self) -> u32
-        ensures { result ≡ (sums self.now).draw }
-    {
-        self.taken().draw
-    }
+        ensures { result ≡ (sums self.now).draw };
 
     fn feed_in(&self) -> u32
-        ensures { result ≡ (sums self.now).feed_in }
-    {
-        self.taken().feed_in
-    }
+        ensures { result ≡ (sums self.now).feed_in };
 
     fn marked(&self, place: usize) -> u32
         ensures { result ≡ at_place place (sums self.now).marked };
