@@ -1,6 +1,7 @@
 -- What each call of an opened year answers, and what it leaves. Assumes nothing.
-use Rattle.std.specs.Prelude.{◌≡◌, ℕ, Bool, true, false, cond, not, ◌&&◌, List, [], ◌∷◌, length, map, is_ok, is_some, Some, None, Ok, Err, Option, Result, ◌==◌, nat_lt, slice_index_or}
+use Rattle.std.specs.Prelude.{◌≡◌, ℕ, Bool, true, false, cond, not, ◌&&◌, List, [], ◌∷◌, length, map, is_ok, is_some, None, Ok, Err, Result, ◌==◌, nat_lt, slice_index_or}
 use Rattle.std.specs.List.{range_with_len}
+use Rattle.std.specs.Option.{unwrap_or}
 use Rattle.fault.specs.declared.Fault.{Fault}
 use Rattle.fault.specs.declared.cause.Cause.TheVariants.{DraftUnfit, ContractNumberZero, ContractNumberUsed, ContractsFull, NoContract, NotNextQuarter, AmountTooLarge, QuarterPastSpan}
 use Rattle.fault.specs.Questions.{Answer, asked}
@@ -18,10 +19,9 @@ use Rattle.account.specs.declared.year.Closed.{Closed}
 use Rattle.account.specs.Ledgers.{Fresh, Begun, Booked}
 use Rattle.account.specs.SupplyContracts.{used}
 
--- the quarters of the year to settle; an unfit draft has no year to settle, and so no quarter
-abbrev pub quarters_of : Option ℕ → ℕ
-quarters_of None = 0
-quarters_of (Some year) = quarters_in year
+-- the year to settle; 0 where none was set, and such a year is unfit
+abbrev pub year_of : Draft → ℕ
+year_of d = unwrap_or d.year 0
 
 module _ {C : Type 0} (calendar : Calendar C) (c : C) where
   -- whether the calendar answers for every plant: its span has the quarter
@@ -72,7 +72,7 @@ module _ {O : Type 0} where
     entering a quarter amounts = asked quarter (
         (is_some a.year, DraftUnfit)
         ∷ (nat_lt 0 (length a.ledger.contracts.items), NoContract)
-        ∷ (quarter == a.ledger.entered && nat_lt quarter (quarters_of a.year), NotNextQuarter)
+        ∷ (quarter == a.ledger.entered && nat_lt quarter (quarters_in (year_of a.draft)), NotNextQuarter)
         ∷ (allowed amounts, AmountTooLarge)
         ∷ (answers calendar c a.draft.register quarter, QuarterPastSpan)
         ∷ []) (taking (meaning.sums a.option) amounts)
@@ -87,9 +87,9 @@ module _ {O : Type 0} where
     abbrev pub Enters : Opened O → ℕ → Amounts → Answer → Opened O → Type 0
     Enters a quarter amounts r b = (r ≡ entering a quarter amounts) × elim r [ Ok _ ↦ Entered a quarter amounts b | Err _ ↦ a ≡ b ]
 
-  -- a year is complete when every quarter of it was accepted; an unfit one never is
+  -- a year is complete when every quarter of it was accepted
   abbrev pub complete : Opened O → Bool
-  complete a = is_some a.year && a.ledger.entered == quarters_of a.year
+  complete a = a.ledger.entered == quarters_in (year_of a.draft)
 
   -- closing keeps everything
   abbrev pub Closes : Opened O → Closed O → Type 0

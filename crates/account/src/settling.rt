@@ -5,8 +5,7 @@ ghost use Rattle.figures.specs.declared.lines.Standing.TheVariants.{Interim, Fin
 
 use crate::ledger::Ledger;
 use crate::year::{Closed, Opened};
-use arrayvec::ArrayVec;
-use division::divide;
+use division::divide_held;
 use fault::Fault;
 use fault::cause::Cause;
 use figures::lines::{ContractLine, Standing};
@@ -14,17 +13,18 @@ use options::settlement_option::SettlementOption;
 use statement::{MOST_CONTRACTS, Statement};
 use valuing::{draw_figures, plant_lines, totals_of};
 
-fn contract_lines(ledger: &Ledger, netted: u32) -> ArrayVec<ContractLine, MOST_CONTRACTS>
-    ensures { result.items ≡ contract_lines netted ledger.now }
+// The line of each contract, blank where there is none.
+fn contract_lines(ledger: &Ledger, netted: u32) -> [ContractLine; MOST_CONTRACTS]
+    ensures { result ≡ contract_lines netted ledger.now }
 {
     let contracts = ledger.contracts();
-    let shares = divide(netted, contracts);
-    let mut lines = ArrayVec::new();
-    for (contract, share) in contracts.iter().zip(&shares) {
-        lines.push(ContractLine {
+    let shares = divide_held(netted, contracts);
+    let mut lines = [ContractLine::default(); MOST_CONTRACTS];
+    for (place, contract) in contracts.iter().enumerate() {
+        lines[place] = ContractLine {
             number: contract.number,
-            draw: draw_figures(contract.draw, *share),
-        });
+            draw: draw_figures(contract.draw, shares[place]),
+        };
     }
     lines
 }
@@ -34,6 +34,7 @@ fn settle<O: SettlementOption>(opened: &Opened<O>, year: u16, standing: Standing
     ensures { result ≡ settled O.SettlementOption opened.now standing }
 {
     let option = &opened.option;
+    let register = opened.draft.register();
     let totals = totals_of(option);
     Statement {
         year,
@@ -41,8 +42,10 @@ fn settle<O: SettlementOption>(opened: &Opened<O>, year: u16, standing: Standing
         quarters: option.quarters(),
         standing,
         totals,
-        plants: plant_lines(option, opened.draft.register()),
+        plants: plant_lines(option, register),
+        plant_count: register.count(),
         contracts: contract_lines(&opened.ledger, totals.draw.netted),
+        contract_count: opened.ledger.contracts().len(),
     }
 }
 

@@ -1,6 +1,5 @@
 // The states of a year account after its draft: each step takes the earlier state away.
-ghost use Rattle.std.specs.Prelude.{◌≡◌};
-ghost use Rattle.account.specs.Calls.{Opens, Begins, Closes, complete};
+ghost use Rattle.std.specs.Prelude.{◌≡◌, ℕ, Some, None};
 
 use crate::ledger::Ledger;
 use fault::Fault;
@@ -11,6 +10,7 @@ use site::year::quarters_in;
 use statement::MOST_CONTRACTS;
 
 // A year that takes contracts and quarters. One opened from an unfit draft refuses every call but closing.
+// The year to settle is the draft's, and where there is none, no quarter was entered.
 #[derive(Drop)]
 pub struct Opened<O> {
     pub(crate) draft: Draft,
@@ -18,6 +18,8 @@ pub struct Opened<O> {
     pub(crate) year: Option<u16>,
     pub(crate) ledger: Ledger,
     pub(crate) option: O,
+    ghost of_draft: { ((y : ℕ) → year ≡ Some y → draft.year ≡ Some y) },
+    ghost unfit: { year ≡ None → ledger.entered ≡ 0 },
 }
 
 // A year that takes nothing more.
@@ -27,6 +29,8 @@ pub struct Closed<O> {
 }
 
 impl<O: SettlementOption> Opened<O> {
+    ghost use Rattle.account.specs.Calls.{Opens, Begins, Closes, complete};
+
     // The option starts with the power of all plants.
     pub fn open(draft: Draft) -> Opened<O>
         ensures { Opens O.SettlementOption draft result }

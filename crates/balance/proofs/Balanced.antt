@@ -1,11 +1,11 @@
 -- A statement made by the rule balances against every run that leads to its account. Assumes nothing.
-use Rattle.std.proofs.Common.{◌≡◌, ℕ, zero, suc, ◌+◌, ◌*◌, ◌/◌, ◌<◌, ◌≤◌, min, Bool, true, false, cond, List, [], ◌∷◌, map, length, get_or, is_some, take, sum_by, sum, sym, refl, ap, ◌∙◌, subst, ⊎_elim, mul-zero, zero-mul, mul-div_cancel, arith}
+use Rattle.std.proofs.Common.{◌≡◌, ℕ, zero, suc, ◌+◌, ◌*◌, ◌/◌, ◌<◌, ◌≤◌, min, Bool, true, false, cond, ltb, List, [], ◌∷◌, map, length, get_or, is_some, take, sum, sym, refl, ap, ◌∙◌, subst, ⊎_elim, mul-zero, zero-mul, mul-div_cancel, arith}
 use native.Mathlib.Nat.{zero-div}
 use Rattle.std.specs.List.{range_with_len}
-use Rattle.std.proofs.lemmas.List.{length-map}
-use Rattle.std.proofs.lemmas.List.FromFn.{length-map-range_with_len, get_or-map-range_with_len}
+use Rattle.std.proofs.lemmas.List.{length-map, get_or_past}
+use Rattle.std.proofs.lemmas.List.FromFn.{get_or-map-range_with_len}
 use Rattle.std.proofs.lemmas.List.Sums.{sum-map}
-use Rattle.std.proofs.lemmas.Bool.{cases_lt, cond-true}
+use Rattle.std.proofs.lemmas.Bool.{cases_lt, cond-true, lt-ltb}
 use Rattle.calendar.specs.declared.value_calendar.ValueCalendar.{Ghosts as Calendar}
 use Rattle.division.specs.Shares.{weights, share}
 use Rattle.division.proofs.Laws.{within}
@@ -46,9 +46,10 @@ weight_at f [] d k = refl
 weight_at f (x ∷ xs) d zero = refl
 weight_at f (x ∷ xs) d (suc k) = weight_at f xs d k
 
--- a line is its row's
-line_at : {X : Type 0} (row : ℕ → X) (blank : X) (n k : ℕ) → k < n → get_or (map row (range_with_len 0 n)) k blank ≡ row k
-line_at row blank n k inside = get_or-map-range_with_len row 0 n k k blank inside (omega arith)
+-- a line of the first rows is its row's
+line_at : {X : Type 0} (row : ℕ → X) (blank : X) (n count k : ℕ) → count ≤ n → k < count → get_or (map (λ j. cond (ltb j count) (row j) blank) (range_with_len 0 n)) k blank ≡ row k
+line_at row blank n count k few inside =
+    get_or-map-range_with_len (λ j. cond (ltb j count) (row j) blank) 0 n k k blank (omega arith) (omega arith) ∙ cond-true (ltb k count) (row k) blank (lt-ltb k count inside)
 
 -- nothing over anything is nothing
 nothing_over : (lower : ℕ) (n : ℕ) → n ≡ 0 → n / lower ≡ 0
@@ -86,14 +87,14 @@ module _ {O C : Type 0} (meaning : Meaning O) (laws : Laws meaning) (calendar : 
   all_draws = sum-map (λ (x : Contract). x.draw) ledger.contracts.items ∙ held.kept.all ∙ sym held.summed.draw
 
   all_portions : (standing : Standing) → say.portions (settled meaning a standing) ≡ meaning.base a.option
-  all_portions standing =
-      ap (λ n. sum_by (λ (l : PlantLine). l.portion) (map (plant_row meaning a.option register) (range_with_len 0 n))) (sym (length-map register.plants.items (λ (p : Plant). p.power)))
-      ∙ all_lines (λ (l : PlantLine). l.portion) (plant_row meaning a.option register) (meaning.base a.option) powers (λ k. refl) (λ none. absurd (omega (arith, some_power)))
+  all_portions standing = all_lines (λ (l : PlantLine). l.portion) (plant_row meaning a.option register) no_plant_line (meaning.base a.option) powers (length register.plants.items) (λ k inside. refl) 8 register.held
+      (λ none. absurd (omega (arith, some_power)))
+      (λ i past. get_or_past powers i 0 (omega (arith, length-map register.plants.items (λ (p : Plant). p.power))))
 
   all_netted : (standing : Standing) → say.netted (settled meaning a standing) ≡ netted meaning a.option
-  all_netted standing =
-      ap (λ n. sum_by (λ (l : ContractLine). l.draw.netted) (map (contract_row (netted meaning a.option) ledger) (range_with_len 0 n))) (sym (length-map ledger.contracts.items (λ (x : Contract). x.draw)))
-      ∙ all_lines (λ (l : ContractLine). l.draw.netted) (contract_row (netted meaning a.option) ledger) (netted meaning a.option) draws (λ k. refl) (λ none. omega (arith, all_draws))
+  all_netted standing = all_lines (λ (l : ContractLine). l.draw.netted) (contract_row (netted meaning a.option) ledger) no_contract_line (netted meaning a.option) draws (length ledger.contracts.items) (λ k inside. refl) 4 ledger.few
+      (λ none. omega (arith, all_draws))
+      (λ i past. get_or_past draws i 0 (omega (arith, length-map ledger.contracts.items (λ (x : Contract). x.draw))))
 
   module _ (k : ℕ) (inside : k < (length register.plants.items)) where
     abbrev row : PlantLine
@@ -137,12 +138,12 @@ module _ {O C : Type 0} (meaning : Meaning O) (laws : Laws meaning) (calendar : 
   balanced standing = record {
     feed_in = omega (arith, all_portions standing, laws.whole a.option, held.summed.feed_in);
     netting = all_netted standing ∙ ap (λ n. min n (meaning.nettable a.option)) held.summed.draw;
-    as_many_plants = length-map-range_with_len (plant_row meaning a.option register) 0 (length register.plants.items) ∙ held.registered.count;
+    as_many_plants = held.registered.count;
     each_plant = λ k inside.
         let here : k < (length register.plants.items) = omega (arith, held.registered.count) in
-        subst (PlantBalances (calendar.above c) calls (at no_entry (plants calls) k)) (sym (line_at (plant_row meaning a.option register) no_plant_line (length register.plants.items) k here)) (plant_balances k here);
-    as_many_contracts = length-map-range_with_len (contract_row (netted meaning a.option) ledger) 0 (length ledger.contracts.items) ∙ held.kept.begun;
+        subst (PlantBalances (calendar.above c) calls (at no_entry (plants calls) k)) (sym (line_at (plant_row meaning a.option register) no_plant_line 8 (length register.plants.items) k register.held here)) (plant_balances k here);
+    as_many_contracts = held.kept.begun;
     each_contract = λ k inside.
         let here : k < (length ledger.contracts.items) = omega (arith, held.kept.begun) in
-        subst (ContractBalances calls k) (sym (line_at (contract_row (netted meaning a.option) ledger) no_contract_line (length ledger.contracts.items) k here)) (contract_balances k here);
+        subst (ContractBalances calls k) (sym (line_at (contract_row (netted meaning a.option) ledger) no_contract_line 4 (length ledger.contracts.items) k ledger.few here)) (contract_balances k here);
   }

@@ -42,11 +42,11 @@ pub record Balances (above : ℕ → ℕ → Bool) (calls : List Call) (s : Stat
   -- all netted together is the smaller of accepted draw and nettable feed-in
   pub netting : netted s ≡ min (drawn (readings calls)) s.totals.feed_in.nettable
   -- a line for each plant that was added
-  pub as_many_plants : length (plant_lines s) ≡ length (plants calls)
-  pub each_plant : (place : ℕ) → place < length (plants calls) → PlantBalances above calls (at no_entry (plants calls) place) (slice_index_or (plant_lines s) place no_plant_line)
+  pub as_many_plants : s.plant_count ≡ length (plants calls)
+  pub each_plant : (place : ℕ) → place < length (plants calls) → PlantBalances above calls (at no_entry (plants calls) place) (slice_index_or s.plants place no_plant_line)
   -- a line for each contract that was begun
-  pub as_many_contracts : length (contract_lines s) ≡ length (contracts calls)
-  pub each_contract : (place : ℕ) → place < length (contracts calls) → ContractBalances calls place (slice_index_or (contract_lines s) place no_contract_line)
+  pub as_many_contracts : s.contract_count ≡ length (contracts calls)
+  pub each_contract : (place : ℕ) → place < length (contracts calls) → ContractBalances calls place (slice_index_or s.contracts place no_contract_line)
 
 -- a statement that was given balances against the calls before it
 abbrev pub Given : (ℕ → ℕ → Bool) → List Call → Answer → Statement → Type 0

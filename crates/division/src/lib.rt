@@ -1,7 +1,7 @@
 // An amount divided over rows by weight.
 #![tactic(auto)]
 
-ghost use Rattle.std.specs.Prelude.{◌≡◌, ℕ, ◌*◌, ◌/◌, ◌^◌, ◌<◌, ◌≤◌, sum};
+ghost use Rattle.std.specs.Prelude.{◌≡◌, ℕ, ◌*◌, ◌/◌, ◌^◌, ◌<◌, ◌≤◌, length, sum};
 ghost use Rattle.division.specs.Shares.{weights, Divided};
 
 use arrayvec::ArrayVec;
@@ -38,19 +38,39 @@ fn part(amount: u32, some: u128, all: u128) -> u32
 }
 
 // Each row gets what the rows up to and with it get together, less what the rows before it got, so that rounding loses nothing.
-pub fn divide<R: Weighted, const N: usize>(amount: u32, rows: &ArrayVec<R, N>) -> ArrayVec<u32, N>
-    ensures { Divided amount (weights R.Weighted.weight rows.now.items) result.items }
+fn share_out<R: Weighted>(amount: u32, rows: &[R], shares: &mut [u32])
+    requires { length rows.now ≡ length shares.old }
+    ensures { Divided amount (weights R.Weighted.weight rows.now) shares.new }
 {
-    let rows = rows.as_slice();
     let all = all_weights(rows);
-    let mut shares = ArrayVec::new();
     let mut weights_so_far: u128 = 0;
     let mut given = 0;
-    for row in rows {
+    for (place, row) in rows.iter().enumerate() {
         weights_so_far += row.weight() as u128;
         let together = part(amount, weights_so_far, all);
-        shares.push(together - given);
+        shares[place] = together - given;
         given = together;
     }
+}
+
+// Among as many rows as an array has.
+pub fn divide<R: Weighted, const N: usize>(amount: u32, rows: &[R; N]) -> [u32; N]
+    ensures { Divided amount (weights R.Weighted.weight rows.now) result }
+{
+    let mut shares = [0; N];
+    share_out(amount, rows, &mut shares);
+    shares
+}
+
+// Among the rows that a vector of fixed capacity holds.
+pub fn divide_held<R: Weighted, const N: usize>(
+    amount: u32,
+    rows: &ArrayVec<R, N>,
+) -> ArrayVec<u32, N>
+    ensures { Divided amount (weights R.Weighted.weight rows.now.items) result.items }
+{
+    let mut shares = ArrayVec::from([0; N]);
+    shares.truncate(rows.len());
+    share_out(amount, rows.as_slice(), shares.as_mut_slice());
     shares
 }

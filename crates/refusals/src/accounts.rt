@@ -61,7 +61,7 @@ mod tests {
             year.begin_contract(number)?;
         }
         let before = stated(&year)?;
-        assert_eq!(rt; before.contracts.len(), 4);
+        assert_eq!(rt; before.contract_count, 4);
         refused(year.begin_contract(0), 3, 22, 0)?;
         refused(year.begin_contract(4), 3, 23, 4)?;
         refused(year.begin_contract(5), 3, 24, 5)?;

@@ -4,7 +4,6 @@
 ghost use Rattle.std.specs.Prelude.{◌≡◌};
 ghost use Rattle.statement.specs.Lines.{plant_lines, contract_lines, blank};
 
-use arrayvec::ArrayVec;
 use figures::lines::{ContractLine, PlantLine, Standing, Totals};
 use options::settlement_option::PLACES;
 
@@ -13,8 +12,9 @@ pub mod text;
 // The most contracts of a year.
 pub const MOST_CONTRACTS: usize = 4;
 
-// A line for each plant, in the order of adding, and for each contract, in the order of beginning.
-#[derive(Clone, PartialEq, Debug, Drop)]
+// The first `plant_count` plant lines, in the order of adding, and the first `contract_count` contract lines, in the order of beginning, count.
+// Arrays with counts and no vectors of fixed capacity, so that a statement is copied by use.
+#[derive(Clone, Copy, PartialEq, Debug)]
 pub struct Statement {
     pub year: u16,
     // The option's number, as its trait has it.
@@ -22,8 +22,10 @@ pub struct Statement {
     pub quarters: u32,
     pub standing: Standing,
     pub totals: Totals,
-    pub plants: ArrayVec<PlantLine, PLACES>,
-    pub contracts: ArrayVec<ContractLine, MOST_CONTRACTS>,
+    pub plants: [PlantLine; PLACES],
+    pub plant_count: usize,
+    pub contracts: [ContractLine; MOST_CONTRACTS],
+    pub contract_count: usize,
 }
 
 impl Statement {
@@ -37,8 +39,10 @@ impl Statement {
             quarters: 0,
             standing: Standing::default(),
             totals: Totals::default(),
-            plants: ArrayVec::new(),
-            contracts: ArrayVec::new(),
+            plants: [PlantLine::default(); PLACES],
+            plant_count: 0,
+            contracts: [ContractLine::default(); MOST_CONTRACTS],
+            contract_count: 0,
         }
     }
 
@@ -46,13 +50,13 @@ impl Statement {
     pub fn plant_lines(&self) -> &[PlantLine]
         ensures { result.now ≡ plant_lines self.now }
     {
-        self.plants.as_slice()
+        &self.plants[..self.plant_count.min(PLACES)]
     }
 
     // The lines of the contracts.
     pub fn contract_lines(&self) -> &[ContractLine]
         ensures { result.now ≡ contract_lines self.now }
     {
-        self.contracts.as_slice()
+        &self.contracts[..self.contract_count.min(MOST_CONTRACTS)]
     }
 }

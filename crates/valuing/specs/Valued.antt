@@ -1,5 +1,5 @@
 -- What becomes of a year's draw and feed-in: the totals, and each plant's portion with the part of it that is valued. Assumes nothing.
-use Rattle.std.specs.Prelude.{ℕ, ◌-◌, ◌*◌, ◌/◌, min, cond, List, map, length, slice_index_or}
+use Rattle.std.specs.Prelude.{ℕ, ◌-◌, ◌*◌, ◌/◌, min, cond, List, map, length, nat_lt, slice_index_or}
 use Rattle.std.specs.List.{range_with_len}
 use Rattle.division.specs.Shares.{weights, share}
 use Rattle.options.specs.declared.settlement_option.SettlementOption.{Ghosts as Meaning}
@@ -9,6 +9,7 @@ use Rattle.site.specs.Plants.{no_plant, supported}
 use Rattle.figures.specs.declared.lines.DrawFigures.{DrawFigures}
 use Rattle.figures.specs.declared.lines.PlantLine.{PlantLine}
 use Rattle.figures.specs.declared.lines.Totals.{Totals}
+use Rattle.figures.specs.Blank.{no_plant_line}
 
 -- levied is the draw that is not netted
 abbrev pub drawn : ℕ → ℕ → DrawFigures
@@ -39,9 +40,9 @@ module _ {O : Type 0} (meaning : Meaning O) (o : O) where
   abbrev pub plant_row : Register → ℕ → PlantLine
   plant_row g place = line (slice_index_or g.plants.items place no_plant) place (portion g place)
 
-  -- the line of each plant, in the order of adding
+  -- the line of each plant, blank where there is none
   abbrev pub plant_lines : Register → List PlantLine
-  plant_lines g = map (plant_row g) (range_with_len 0 (length g.plants.items))
+  plant_lines g = map (λ place. cond (nat_lt place (length g.plants.items)) (plant_row g place) no_plant_line) (range_with_len 0 8)
 
   -- the smaller of draw and nettable feed-in is netted
   abbrev pub netted : ℕ

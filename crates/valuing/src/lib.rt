@@ -4,8 +4,7 @@
 ghost use Rattle.std.specs.Prelude.{◌≡◌, ◌<◌, ◌≤◌};
 ghost use Rattle.valuing.specs.Valued.{drawn, valued, line, plant_lines, totals};
 
-use arrayvec::ArrayVec;
-use division::divide;
+use division::divide_held;
 use figures::lines::{DrawFigures, FeedInFigures, PlantLine, Totals};
 use options::settlement_option::{PLACES, SettlementOption};
 use site::plant::Plant;
@@ -59,19 +58,14 @@ fn plant_line<O: SettlementOption>(
     }
 }
 
-// The line of each plant, in the order of adding.
-pub fn plant_lines<O: SettlementOption>(
-    option: &O,
-    register: &Register,
-) -> ArrayVec<PlantLine, PLACES>
-    ensures { result.items ≡ plant_lines O.SettlementOption option.now register.now }
+// The line of each plant, blank where there is none.
+pub fn plant_lines<O: SettlementOption>(option: &O, register: &Register) -> [PlantLine; PLACES]
+    ensures { result ≡ plant_lines O.SettlementOption option.now register.now }
 {
-    let portions = divide(option.base(), register.places());
-    let mut lines = ArrayVec::new();
-    for (plant, portion) in register.plants().iter().zip(&portions) {
-        // The place of the line that is to come.
-        let place = lines.len();
-        lines.push(plant_line(option, plant, place, *portion));
+    let portions = divide_held(option.base(), register.places());
+    let mut lines = [PlantLine::default(); PLACES];
+    for (place, plant) in register.plants().iter().enumerate() {
+        lines[place] = plant_line(option, plant, place, portions[place]);
     }
     lines
 }

@@ -33,7 +33,7 @@ fn drafted() -> Result<Draft, Fault>
 
 // Two quarters, the first with a value above zero, the second without.
 pub fn settled_run() -> Result<Statement, Fault>
-    ensures { MatchResult result (λ s. (s.totals ≡ run_totals) × (slice_index_or s.plants.items 0 no_plant_line ≡ run_plant) × Balances (λ _ quarter. nat_lt quarter 1) run_calls s) (λ _. ⊥) }
+    ensures { MatchResult result (λ s. (s.totals ≡ run_totals) × (slice_index_or s.plants 0 no_plant_line ≡ run_plant) × Balances (λ _ quarter. nat_lt quarter 1) run_calls s) (λ _. ⊥) }
 {
     let draft = drafted()?;
     let mut year: Opened<FlatOption> = Opened::open(draft);

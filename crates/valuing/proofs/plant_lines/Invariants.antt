@@ -1,7 +1,7 @@
-use Rattle.std.proofs.Common.{◌≡◌, length, map}
-use Rattle.std.specs.List.{range_with_len}
 use Rattle.valuing.specs.Valued.{plant_row}
+use Rattle.figures.specs.Blank.{no_plant_line}
+use Rattle.valuing.proofs.Filling.{Filled}
 use Rattle.valuing.proofs.plant_lines.Given as goal
 
-abbrev pub invariant-loop-plant : goal.invariant-loop-plant
-invariant-loop-plant g l = l.lines.items ≡ map (plant_row g.O.SettlementOption l.fn.option l.fn.register) (range_with_len 0 (length l.yielded))
+abbrev pub invariant-loop-place : goal.invariant-loop-place
+invariant-loop-place g l = Filled (plant_row g.O.SettlementOption l.option l.register) no_plant_line 8 l.place l.lines

@@ -2,7 +2,7 @@ use Rattle.std.proofs.Common.{◌≡◌, Bool, true, false, ltb, List, length, O
 use Rattle.std.proofs.lemmas.Bool.{cases_lt, cond-true, cond-false, lt-ltb, le-ltb}
 use Rattle.fault.specs.declared.Fault.{Fault}
 use Rattle.account.specs.Calls.{answers, mark, marks}
-use Rattle.account.proofs.Filling.{filled_all}
+use Rattle.valuing.proofs.Filling.{filled_all}
 use Rattle.account.proofs.entering.marks_of.Goals as goal
 
 pub returns : goal.returns

@@ -1,6 +1,6 @@
 use Rattle.std.proofs.Common.{◌<◌, false}
 use Rattle.account.specs.Calls.{mark}
-use Rattle.account.proofs.Filling.{Filled}
+use Rattle.valuing.proofs.Filling.{Filled}
 use Rattle.account.proofs.entering.marks_of.Given as goal
 
 abbrev pub invariant-loop-place : goal.invariant-loop-place

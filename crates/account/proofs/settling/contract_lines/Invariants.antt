@@ -1,7 +1,7 @@
-use Rattle.std.proofs.Common.{◌≡◌, length, map}
-use Rattle.std.specs.List.{range_with_len}
 use Rattle.account.specs.Statements.{contract_row}
+use Rattle.figures.specs.Blank.{no_contract_line}
+use Rattle.valuing.proofs.Filling.{Filled}
 use Rattle.account.proofs.settling.contract_lines.Given as goal
 
-abbrev pub invariant-loop-contract : goal.invariant-loop-contract
-invariant-loop-contract l = l.lines.items ≡ map (contract_row l.fn.netted l.fn.ledger) (range_with_len 0 (length l.yielded))
+abbrev pub invariant-loop-place : goal.invariant-loop-place
+invariant-loop-place l = Filled (contract_row l.netted l.ledger) no_contract_line 4 l.place l.lines

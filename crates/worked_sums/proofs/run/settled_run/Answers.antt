@@ -1,4 +1,4 @@
-use Rattle.std.proofs.Common.{◌≡◌, ◌+◌, true, false, cond, length, get_or, refl, ap, ◌∙◌, arith}
+use Rattle.std.proofs.Common.{◌≡◌, ◌+◌, true, false, cond, ltb, length, get_or, ap, ◌∙◌, arith}
 use Rattle.flat.specs.contracts.settles.FlatOptionSettlementOption.TheImpl.{ghosts as flat}
 use Rattle.worked_sums.specs.contracts.calendar_of_run.AboveZeroUntilValueCalendar.TheImpl.{ghosts as calendar}
 use Rattle.flat.specs.declared.FlatOption.{FlatOption}
@@ -8,7 +8,7 @@ use Rattle.valuing.specs.Valued.{plant_row}
 use Rattle.site.specs.declared.register.Register.{Register}
 use Rattle.statement.specs.declared.Statement.{Statement}
 use Rattle.figures.specs.Blank.{no_plant_line}
-use Rattle.std.proofs.lemmas.List.FromFn.{get_or-map-range_with_len}
+use Rattle.std.proofs.lemmas.Bool.{cond-true, lt-ltb}
 use Rattle.balance.specs.Runs.{opens, begins, enters}
 use Rattle.worked_sums.specs.Run.{until_one, run_calls}
 use Rattle.worked_sums.proofs.Settled.{totals_are, plant_is}
@@ -38,10 +38,11 @@ returns c =
     ∙ ap (λ b. get_or c.enter_quarter.new.self.option.marked 0 0 + cond b 800 0) mark_2
     ∙ omega (arith, first.option.marked 0 (omega arith) ∙ ap (λ b. get_or c.begin_contract.new.self.option.marked 0 0 + cond b 600 0) mark, ap (λ (x : FlatOption). get_or x.marked 0 0) begun.option, opened.option.marked 0 (omega arith)) in
     let filled = c.in_ok-interim_statement.ensures.fills.1 in
-    let led = enters (enters (begins (opens drafted.2 opened) c.in_ok-begin_contract.ensures) c.in_ok-enter_quarter.ensures) c.in_ok-enter_quarter-2.ensures in (
+    let led = enters (enters (begins (opens drafted.2 opened) c.in_ok-begin_contract.ensures) c.in_ok-enter_quarter.ensures) c.in_ok-enter_quarter-2.ensures in
+    let line = plant_row flat o year.draft.register 0 in (
       ap (λ (s : Statement). s.totals) filled ∙ totals_are o power fed drew,
-      ap (λ (s : Statement). get_or s.plants.items 0 no_plant_line) filled
-          ∙ get_or-map-range_with_len (plant_row flat o year.draft.register) 0 (length year.draft.register.plants.items) 0 0 no_plant_line (omega (arith, ap (λ (g : Register). length g.plants.items) register, ap length drafted.1)) refl
+      ap (λ (s : Statement). get_or s.plants 0 no_plant_line) filled
+          ∙ cond-true (ltb 0 (length year.draft.register.plants.items)) line no_plant_line (lt-ltb 0 _ (omega (arith, ap (λ (g : Register). length g.plants.items) register, ap length drafted.1)))
           ∙ plant_is o power fed year.draft.register (ap (λ (g : Register). g.plants.items) register ∙ drafted.1) marked,
       c.in_ok-interim_statement.ensures.balances until_one run_calls led,
     )
