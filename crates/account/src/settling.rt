@@ -13,7 +13,7 @@ use options::settlement_option::SettlementOption;
 use statement::{MOST_CONTRACTS, Statement};
 use valuing::{draw_figures, plant_lines, totals_of};
 
-// The line of each contract, blank where there is none.
+// The line of each contract, blank where there is none. By place, since a statement keeps arrays.
 fn contract_lines(ledger: &Ledger, netted: u32) -> [ContractLine; MOST_CONTRACTS]
     ensures { result ≡ contract_lines netted ledger.now }
 {

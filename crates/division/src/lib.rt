@@ -38,6 +38,7 @@ fn part(amount: u32, some: u128, all: u128) -> u32
 }
 
 // Each row gets what the rows up to and with it get together, less what the rows before it got, so that rounding loses nothing.
+// By place, since the shares lie where an array or a vector lends them.
 fn share_out<R: Weighted>(amount: u32, rows: &[R], shares: &mut [u32])
     requires { length rows.now ≡ length shares.old }
     ensures { Divided amount (weights R.Weighted.weight rows.now) shares.new }
@@ -53,7 +54,7 @@ fn share_out<R: Weighted>(amount: u32, rows: &[R], shares: &mut [u32])
     }
 }
 
-// Among as many rows as an array has.
+// The shares of an array's rows, which need have nothing but a weight.
 pub fn divide<R: Weighted, const N: usize>(amount: u32, rows: &[R; N]) -> [u32; N]
     ensures { Divided amount (weights R.Weighted.weight rows.now) result }
 {
@@ -62,7 +63,7 @@ pub fn divide<R: Weighted, const N: usize>(amount: u32, rows: &[R; N]) -> [u32; 
     shares
 }
 
-// Among the rows that a vector of fixed capacity holds.
+// The shares of the rows that a vector holds.
 pub fn divide_held<R: Weighted, const N: usize>(
     amount: u32,
     rows: &ArrayVec<R, N>,

@@ -1,4 +1,4 @@
--- What every option counts up, apart from what was marked. Assumes nothing.
+-- What both options count up, apart from what was marked. Assumes nothing.
 use Rattle.std.specs.Prelude.{◌≡◌, ℕ, ◌+◌}
 use Rattle.options.specs.declared.amounts.Amounts.{Amounts}
 use Rattle.options.specs.declared.taken.Taken.{Taken}

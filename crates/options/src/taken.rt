@@ -1,4 +1,4 @@
-// What every option counts up over the quarters that it took.
+// What both options count up over the quarters that they took.
 ghost use Rattle.std.specs.Prelude.{◌≡◌, ◌*◌, ◌≤◌, ◌<◌, true, MatchResult, IfOk, Ok, Err};
 ghost use Rattle.options.specs.Quarters.{allowed, taking_after};
 

@@ -1,5 +1,5 @@
 // Numbers spelled by decimal digits at the front of a text.
-ghost use Rattle.std.specs.Prelude.{◌≡◌, ◌-◌, ◌^◌, ◌≤◌, length, min};
+ghost use Rattle.std.specs.Prelude.{◌≡◌, ◌-◌, ◌^◌, min};
 ghost use Rattle.std.specs.Option.{MatchOption};
 ghost use Rattle.price_line.specs.Digits.{Read, digits_in, number_in};
 

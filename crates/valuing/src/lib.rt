@@ -58,7 +58,7 @@ fn plant_line<O: SettlementOption>(
     }
 }
 
-// The line of each plant, blank where there is none.
+// The line of each plant, blank where there is none. By place, since a statement keeps arrays.
 pub fn plant_lines<O: SettlementOption>(option: &O, register: &Register) -> [PlantLine; PLACES]
     ensures { result ≡ plant_lines O.SettlementOption option.now register.now }
 {
